@@ -1,0 +1,120 @@
+-- Names, labels, indexes: which rows are secret. Inputs are; and a rule reads "if row a is secret, so is row b".
+-- Of all sets of rows with the inputs and these rules, the secret rows are the smallest. Check 7.
+use Prim.Native.Nat.{ℕ, zero, suc}
+use mathlib.Core.Bool.{Bool, true, false, not, _||_}
+use mathlib.Core.Option.{Option, none, some}
+use mathlib.Core.List.{List, [], _∷_, _++_}
+use lib.Dec.{T, eqb}
+use Rattle.rules.specs.Tree.{Expr, number, truth, name, two, choose, element, input, rowE}
+use Rattle.rules.specs.Tree.{Stmt, declare, assign, loop, write, branch, out, then}
+use Rattle.rules.specs.Scope.{Known, declared, looped, Scope, lookup}
+use Rattle.rules.specs.Sites.{Node, ofE, ofS, Site}
+
+pub record Rule : Type 0 where
+  pub from : ℕ
+  pub to : ℕ
+
+abbrev pub rule : ℕ → ℕ → Rule
+rule a b = record { from = a; to = b }
+
+-- row r reads a name: secret as the name's declaration is; a loop's name is public
+unfoldable pub reads : Option Known → ℕ → List Rule
+reads none r = []
+reads (some (declared d t n)) r = rule d r ∷ []
+reads (some (looped d l)) r = []
+
+-- the value at row v is assigned or written to a name: its declaration is secret if the value is
+unfoldable pub stores : ℕ → Option Known → List Rule
+stores v none = []
+stores v (some (declared d t n)) = rule v d ∷ []
+stores v (some (looped d l)) = []
+
+-- the rules of one row: +, > and cond are secret with any secret part
+unfoldable pub rulesOf : Scope → Node → List Rule
+rulesOf sc (ofE (number r n)) = []
+rulesOf sc (ofE (truth r n)) = []
+rulesOf sc (ofE (name r x)) = reads (lookup sc x) r
+rulesOf sc (ofE (two r o a b)) = rule (rowE a) r ∷ rule (rowE b) r ∷ []
+rulesOf sc (ofE (choose r g a b)) = rule (rowE g) r ∷ rule (rowE a) r ∷ rule (rowE b) r ∷ []
+rulesOf sc (ofE (element r x i)) = reads (lookup sc x) r
+rulesOf sc (ofE (input r t d n)) = []
+rulesOf sc (ofS (declare r x t n)) = []
+rulesOf sc (ofS (assign r x e)) = stores (rowE e) (lookup sc x)
+rulesOf sc (ofS (loop r x b f l)) = []
+rulesOf sc (ofS (write r x i e)) = stores (rowE e) (lookup sc x)
+rulesOf sc (ofS (branch r g a b)) = []
+rulesOf sc (ofS (out r e)) = []
+rulesOf sc (ofS (then r a b)) = []
+
+-- the row of an input
+unfoldable pub inputsOf : Node → List ℕ
+inputsOf (ofE (number r n)) = []
+inputsOf (ofE (truth r n)) = []
+inputsOf (ofE (name r x)) = []
+inputsOf (ofE (two r o a b)) = []
+inputsOf (ofE (choose r g a b)) = []
+inputsOf (ofE (element r x i)) = []
+inputsOf (ofE (input r t d n)) = r ∷ []
+inputsOf (ofS p) = []
+
+unfoldable pub allRules : List Site → List Rule
+allRules [] = []
+allRules (s ∷ ss) = rulesOf (s .scope) (s .node) ++ allRules ss
+
+unfoldable pub allInputs : List Site → List ℕ
+allInputs [] = []
+allInputs (s ∷ ss) = inputsOf (s .node) ++ allInputs ss
+
+-- A set of rows is closed: it has the inputs and keeps the rules.
+abbrev pub Has : (ℕ → Bool) → List ℕ → Type 0
+Has S [] = Unit {0}
+Has S (r ∷ rs) = T (S r) × Has S rs
+
+abbrev pub Keeps : (ℕ → Bool) → List Rule → Type 0
+Keeps S [] = Unit {0}
+Keeps S (p ∷ ps) = (T (S (p .from)) → T (S (p .to))) × Keeps S ps
+
+pub record Closed (ins : List ℕ) (rs : List Rule) (S : ℕ → Bool) : Type 0 where
+  pub sources : Has S ins
+  pub keeps : Keeps S rs
+
+-- A row is secret: it is in every closed set.
+unfoldable pub Secret : List Site → ℕ → Type 0
+Secret ss r = (S : ℕ → Bool) → Closed (allInputs ss) (allRules ss) S → T (S r)
+
+-- The same, computed: a row is in a list; what the rules add to a list; as many passes as there are rows.
+unfoldable pub has : List ℕ → ℕ → Bool
+has [] r = false
+has (x ∷ xs) r = eqb x r || has xs r
+
+unfoldable pub fired : List Rule → List ℕ → List ℕ
+fired [] S = []
+fired (p ∷ ps) S = elim (has S (p .from)) [ true ↦ p .to ∷ fired ps S | false ↦ fired ps S ]
+
+unfoldable pub passes : ℕ → List ℕ → List Rule → List ℕ
+passes zero ins rs = []
+passes (suc n) ins rs = ins ++ fired rs (passes n ins rs)
+
+-- the secret rows of a program of n rows
+unfoldable pub secrets : ℕ → List Site → List ℕ
+secrets n ss = passes n (allInputs ss) (allRules ss)
+
+-- check 7: a secret index, or a secret guard of an if
+unfoldable pub public : (ℕ → Bool) → Node → Bool
+public S (ofE (number r n)) = true
+public S (ofE (truth r n)) = true
+public S (ofE (name r x)) = true
+public S (ofE (two r o a b)) = true
+public S (ofE (choose r g a b)) = true
+public S (ofE (element r x i)) = not (S (rowE i))
+public S (ofE (input r t d n)) = true
+public S (ofS (declare r x t n)) = true
+public S (ofS (assign r x e)) = true
+public S (ofS (loop r x b f l)) = true
+public S (ofS (write r x i e)) = not (S (rowE i))
+public S (ofS (branch r g a b)) = not (S (rowE g))
+public S (ofS (out r e)) = true
+public S (ofS (then r a b)) = true
+
+unfoldable pub check7 : (ℕ → Bool) → Site → Bool
+check7 S s = public S (s .node)

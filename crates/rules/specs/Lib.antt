@@ -1,0 +1,20 @@
+-- Document 01 with Figures 1 to 13, a file for each section, in the paper's order.
+pub mod Places
+pub mod Rows
+pub mod Tree
+pub mod Scope
+pub mod Sites
+pub mod Names
+pub mod Types
+pub mod Labels
+pub mod Counts
+pub mod Sorts
+pub mod Gates
+pub mod Run
+pub mod Plain
+pub mod Direct
+pub mod Accesses
+pub mod Shares
+pub mod Text
+pub mod Answers
+pub mod Refusals

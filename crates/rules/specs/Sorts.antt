@@ -1,0 +1,71 @@
+-- Sorts of wires: 1 arithmetic, 2 a uint in boolean shares, 3 a bool (one bit). And one line for each two-sided operator.
+use Prim.Native.Nat.{ℕ, zero, suc, _+_, _%_}
+use mathlib.Core.Bool.{Bool, true, false, cond}
+use mathlib.Core.Option.{Option, none, some}
+use mathlib.Core.List.{List, [], _∷_}
+use lib.Dec.{ltb, leb}
+use lib.ListN.{getD}
+use Rattle.rules.specs.Rows.{Ty, uint, bool, Op, add, gt}
+
+pub data Sort : Type 0 where
+  arithmetic boolean bit : Sort
+
+abbrev pub sortNumber : Sort → ℕ
+sortNumber arithmetic = 1
+sortNumber boolean = 2
+sortNumber bit = 3
+
+-- the sort of a number
+unfoldable pub sortNumbered : ℕ → Option Sort
+sortNumbered n = getD (none ∷ some arithmetic ∷ some boolean ∷ some bit ∷ []) n none
+
+abbrev pub same : Sort → Sort → Bool
+same arithmetic arithmetic = true
+same arithmetic boolean = false
+same arithmetic bit = false
+same boolean arithmetic = false
+same boolean boolean = true
+same boolean bit = false
+same bit arithmetic = false
+same bit boolean = false
+same bit bit = true
+
+abbrev pub typeAt : Sort → Ty
+typeAt arithmetic = uint
+typeAt boolean = uint
+typeAt bit = bool
+
+-- a value may stand on a wire of a sort: a bool is 0 or 1
+abbrev pub holds : Sort → ℕ → Bool
+holds arithmetic v = true
+holds boolean v = true
+holds bit v = leb v 1
+
+-- a secret declaration, a public value put out, an input, the chosen arm of a public guard: uint sort 1, bool sort 3
+abbrev pub keptAt : Ty → Sort
+keptAt uint = arithmetic
+keptAt bool = bit
+
+-- the arms under a secret guard: uint sort 2, bool sort 3
+abbrev pub muxedAt : Ty → Sort
+muxedAt uint = boolean
+muxedAt bool = bit
+
+-- an operator's sides are brought to this sort where it is secret
+abbrev pub sideAt : Op → Sort
+sideAt add = arithmetic
+sideAt gt = boolean
+
+abbrev pub resultAt : Op → Sort
+resultAt add = arithmetic
+resultAt gt = bit
+
+-- what an operator gives: addition wraps at 2^32
+unfoldable pub applied : Op → ℕ → ℕ → ℕ
+applied add a b = (a + b) % 4294967296
+applied gt a b = cond (ltb b a) 1 0
+
+-- the first of two where a guard is true, the second where it is false
+unfoldable pub arm : {A : Type 0} → ℕ → A → A → A
+arm zero a b = b
+arm (suc n) a b = a
