@@ -18,3 +18,4 @@ pub mod Shares
 pub mod Text
 pub mod Answers
 pub mod Refusals
+pub mod Cases

@@ -4,11 +4,11 @@ use Prim.Native.Nat.{ℕ, zero, suc, _+_, _*_, _/_, _%_, _^_, _≤_, _<_}
 use native.Mathlib.Nat.{div-div-eq-div-mul, div-add-mod', mod-eq-of-lt}
 use native.Mathlib.Omega.{arith}
 use mathlib.Core.Bool.{Bool, true, false}
-use mathlib.Core.List.{List, [], _∷_, _++_}
+use mathlib.Core.List.{List, [], _∷_, _++_, append-nil}
 use lib.Dec.{eqb}
 use borrow.Author.Tests.{eqb-true, eqb-false}
-use lib.ListN.{length, getD, set, drop, length-set, length-append, length-drop}
-use lib.Seq.{getD-set-same, getD-set-other, ext-getD}
+use lib.ListN.{length, getD, set, take, drop, length-set, length-append, length-drop}
+use lib.Seq.{getD-set-same, getD-set-other, ext-getD, take-at}
 use Rattle.words.specs.Words.{joined, putAt, words, bytesOf, over, AllWords}
 
 -- word i, read off its four bytes
@@ -126,7 +126,8 @@ past-put a b c d r i w = rw (past-set-0, past-set, past-set, past-set)
 past-drop : (a b c d : ℕ) (r : List ℕ) (n : ℕ) → drop (4 * suc n) (a ∷ b ∷ c ∷ d ∷ r) ≡ drop (4 * n) r
 past-drop a b c d r n = let e : 4 * suc n ≡ suc (suc (suc (suc (4 * n)))) = omega arith in rw e
 
-bytes-length : (ws : List ℕ) → length (bytesOf ws) ≡ 4 * length ws
+-- four bytes to a word
+pub bytes-length : (ws : List ℕ) → length (bytesOf ws) ≡ 4 * length ws
 unfolding bytesOf
 bytes-length [] = refl
 bytes-length (w ∷ ws) = omega (arith, bytes-length ws)
@@ -159,3 +160,13 @@ pub words-over : (ws b : List ℕ) → AllWords ws → words (bytesOf ws ++ b) �
 unfolding bytesOf words
 words-over [] b h = refl
 words-over (w ∷ ws) b h = ap₂ (λ (x : ℕ) (l : List ℕ). x ∷ l) (split-joined w (h .0)) (words-over ws b (h .1))
+
+-- the bytes of words are read back as the words
+pub words-read-back : (ws : List ℕ) → AllWords ws → words (bytesOf ws) ≡ ws
+unfolding words
+words-read-back ws h = rw (append-nil (bytesOf ws), append-nil ws) at (words-over ws [] h)
+
+-- the words over a memory are its first bytes
+pub over-front : (ws b : List ℕ) → take (4 * length ws) (over ws b) ≡ bytesOf ws
+unfolding over
+over-front ws b = take-at (bytesOf ws) (drop (4 * length ws) b) (4 * length ws) (bytes-length ws)

@@ -1,0 +1,636 @@
+-- Sharing: the shares of every wire join to its plain value, so both readings have the same outputs, and neither desk's
+-- shares tell two fit sets of inputs apart (demand 3). And what checks 21 and 23 say, these theorems need.
+use mathlib.Core.Path.{_≡_, refl, sym, ap, ap₂, _∙_, subst}
+use mathlib.Core.Logic.{_⊎_, inl, inr, ⊎-elim}
+use Prim.Native.Nat.{ℕ, zero, suc, _+_, _*_, _%_, _<_}
+use native.Mathlib.Nat.{mod-eq-of-lt, add-assoc, add-comm, add-mod-mod, mod-add-mod}
+use native.Mathlib.Omega.{arith}
+use mathlib.Core.Bool.{Bool, true, false, cond, _&&_, _||_}
+use mathlib.Core.Option.{Option, none, some}
+use mathlib.Core.List.{List, [], _∷_, _++_, cons≢nil}
+use lib.Bits.{bitXor, xor-mod, xor-lt, xor-comm}
+use lib.Dec.{T, eqb, ltb, ltb→lt, leb→le, eqb→eq}
+use lib.ListN.{getD, List·getD-eq-default}
+use borrow.Author.Tests.{eqb-true, eqb-false, ltb-true, ltb-false}
+use Rattle.words.specs.Words.{AllWords}
+use Rattle.rules.specs.Places.{fault, failingBelow}
+use Rattle.rules.specs.Rows.{Op, add, gt}
+use Rattle.rules.specs.Sorts.{Sort, arithmetic, boolean, bit, sortNumber, sortNumbered, same, holds, sideAt, resultAt, applied, arm}
+use Rattle.rules.specs.Gates.{Gate, both, mux, constant, convert, entry, output, gateWords, circuitWords}
+use Rattle.rules.specs.Gates.{unknown, gateKinds, unlisted, withSort, gateOf, gateWord, gateAt, gateCount, added, gatesTo}
+use Rattle.rules.specs.Gates.{makes, Wires, sortMade, wired, wires, isWire, isNext, keepsRules, keeps, check21, AllKeep, entryTest}
+use Rattle.rules.specs.Plain.{Given, inputs, valueOf, Reading, noted, plain}
+use Rattle.rules.specs.Shares.{minus, shareOne, shareTwo, join, taken, tapeFor, Desks, joined, dealt, shared, listed}
+use Rattle.rules.specs.Shares.{sharesOne, sharesTwo, partnerWord, partner, Tape, FitBools, Fit, Private}
+use Rattle.rules.specs.Answers.{failing23}
+use Rattle.rules.proofs.Xor.{xor-cancel, xor-back, xor-turn}
+use Rattle.rules.proofs.Listed.{length-listed, getD-listed, listed-same, listed-getD}
+
+-- One value.
+
+-- a word that may stand on a wire of the sort
+abbrev Good : Sort → ℕ → Type 0
+Good m v = (v < 4294967296) × T (holds m v)
+
+-- two shares join to the value
+pub join-shares : (m : Sort) (v t : ℕ) → v < 4294967296 → T (holds m v) → t < 4294967296 → join m (shareOne m t) (shareTwo m v t) ≡ v
+join-shares arithmetic v t word held tape = omega arith
+join-shares boolean v t word held tape = xor-comm t (bitXor v t) ∙ xor-cancel v t
+join-shares bit v t word held tape = xor-comm (t % 2) (bitXor v (t % 2)) ∙ xor-cancel v (t % 2)
+
+-- a word's partner is a word
+partner-lt : (m : Sort) (v v' t : ℕ) → v < 4294967296 → v' < 4294967296 → t < 4294967296 → partnerWord m v v' t < 4294967296
+partner-lt arithmetic v v' t hv hv' ht = omega arith
+partner-lt boolean v v' t hv hv' ht = xor-lt 32 t (bitXor v v') ht (xor-lt 32 v v' hv hv')
+partner-lt bit v v' t hv hv' ht = xor-lt 32 t (bitXor v v') ht (xor-lt 32 v v' hv hv')
+
+-- the partner's partner, the other way, is the word
+partner-back : (m : Sort) (v v' t : ℕ) → v < 4294967296 → v' < 4294967296 → t < 4294967296
+    → partnerWord m v' v (partnerWord m v v' t) ≡ t
+partner-back arithmetic v v' t hv hv' ht = omega arith
+partner-back boolean v v' t hv hv' ht = xor-back v v' t
+partner-back bit v v' t hv hv' ht = xor-back v v' t
+
+-- a difference is the one word that, with b added, wraps to a
+minus-is : (r a b : ℕ) → r < 4294967296 → b < 4294967296 → (r + b) % 4294967296 ≡ a → minus a b ≡ r
+minus-is r a b hr hb e = omega arith
+
+-- and added to b it wraps to a
+minus-adds : (a b : ℕ) → a < 4294967296 → b < 4294967296 → (minus a b + b) % 4294967296 ≡ a
+minus-adds a b ha hb = omega arith
+
+-- two differences with one sum between
+minus-turn : (v v' t : ℕ) → v < 4294967296 → v' < 4294967296 → t < 4294967296 → minus v' ((t + minus v' v) % 4294967296) ≡ minus v t
+minus-turn v v' t hv hv' ht =
+    minus-is (minus v t) v' ((t + minus v' v) % 4294967296) (omega arith) (omega arith)
+    (add-mod-mod (minus v t) (t + minus v' v) 4294967296
+    ∙ ap (λ (x : ℕ). x % 4294967296) (sym (add-assoc (minus v t) t (minus v' v)))
+    ∙ sym (mod-add-mod (minus v t + t) 4294967296 (minus v' v))
+    ∙ ap (λ (x : ℕ). (x + minus v' v) % 4294967296) (minus-adds v t hv ht)
+    ∙ ap (λ (x : ℕ). x % 4294967296) (add-comm v (minus v' v))
+    ∙ minus-adds v' v hv' hv)
+
+-- the lowest bit of a bool's partner word
+partner-bit : (v v' t : ℕ) → T (holds bit v) → T (holds bit v') → bitXor t (bitXor v v') % 2 ≡ bitXor (t % 2) (bitXor v v')
+partner-bit v v' t held held' =
+    xor-mod t (bitXor v v') 1
+    ∙ ap (λ (x : ℕ). bitXor (t % 2) x) (mod-eq-of-lt (xor-lt 1 v v' (omega (arith, leb→le v 1 held)) (omega (arith, leb→le v' 1 held'))))
+
+-- desk two gets the same of v with t as of v' with t's partner
+partner-two : (m : Sort) (v v' t : ℕ) → Good m v → Good m v' → t < 4294967296 → shareTwo m v t ≡ shareTwo m v' (partnerWord m v v' t)
+partner-two arithmetic v v' t good good' ht = sym (minus-turn v v' t (good .0) (good' .0) ht)
+partner-two boolean v v' t good good' ht = sym (xor-turn v v' t)
+partner-two bit v v' t good good' ht =
+    sym (ap (λ (x : ℕ). bitXor v' x) (partner-bit v v' t (good .1) (good' .1)) ∙ xor-turn v v' (t % 2))
+
+-- What a gate that keeps the rules reads and makes.
+
+-- of two tests that both pass, the first does
+and-left : (x y : Bool) → T (x && y) → T x
+and-left true y t = tt
+and-left false y t = absurd t
+
+-- and the second does
+and-right : (x y : Bool) → T (x && y) → T y
+and-right true y t = t
+and-right false y t = absurd t
+
+-- where one of two tests passes, the first does or the second
+or-cases : (x y : Bool) → T (x || y) → T x ⊎ T y
+or-cases true y t = inl tt
+or-cases false y t = inr t
+
+-- a test out of a row of tests that all pass
+ruleset parts = (and-left, and-right)
+
+-- sorts that pass the test are one sort
+same-is : (m k : Sort) → T (same m k) → m ≡ k
+same-is arithmetic arithmetic t = refl
+same-is arithmetic boolean t = absurd t
+same-is arithmetic bit t = absurd t
+same-is boolean arithmetic t = absurd t
+same-is boolean boolean t = refl
+same-is boolean bit t = absurd t
+same-is bit arithmetic t = absurd t
+same-is bit boolean t = absurd t
+same-is bit bit t = refl
+
+-- a wire of a sort has a number below the count
+wire-below : (gs : List Gate) (w : ℕ) (m : Sort) → T (isWire gs w m) → w < wires gs .count
+unfolding isWire
+wire-below gs w m t = ltb→lt w (wires gs .count) (search parts)
+
+-- and it has that sort
+wire-sort : (gs : List Gate) (w : ℕ) (m : Sort) → T (isWire gs w m) → wires gs .sort w ≡ m
+unfolding isWire
+wire-sort gs w m t = same-is (wires gs .sort w) m (search parts)
+
+-- a new wire has the next number, which is the count
+next-is : (gs : List Gate) (new : ℕ) → T (isNext gs new) → new ≡ wires gs .count
+unfolding isNext
+next-is gs new t = eqb→eq new (wires gs .count) t
+
+-- two wires of one sort
+abbrev Alike : Wires → ℕ → ℕ → Type 0
+Alike w a b = (a < w .count) × (b < w .count) × (w .sort b ≡ w .sort a)
+
+-- a wire, and a sort of uints: any number may stand on it
+abbrev Converts : Wires → ℕ → Sort → Type 0
+Converts w x m = (x < w .count) × ((v : ℕ) → T (holds m v))
+
+-- what the theorems below use of the rules: wires read are below the count, and a new one has the next number
+abbrev Kept : Wires → Gate → Type 0
+Kept w (both o a b new) = (a < w .count) × (b < w .count) × (new ≡ w .count)
+Kept w (mux g a b new) = (g < w .count) × Alike w a b × (new ≡ w .count)
+Kept w (constant v m new) = T (holds m v) × (new ≡ w .count)
+Kept w (convert x m new) = Converts w x m × (new ≡ w .count)
+Kept w (entry d n m new) = new ≡ w .count
+Kept w (output x) = x < w .count
+
+-- two wires that pass for wires of one sort
+alike : (gs : List Gate) (a b : ℕ) (m : Sort) → T (isWire gs a m && isWire gs b m) → Alike (wires gs) a b
+alike gs a b m t =
+    let ta : T (isWire gs a m) = search parts in
+    let tb : T (isWire gs b m) = search parts in
+    (wire-below gs a m ta, wire-below gs b m tb, wire-sort gs b m tb ∙ sym (wire-sort gs a m ta))
+
+-- the arms of a mux are two wires of one sort
+mux-arms : (gs : List Gate) (a b : ℕ)
+    → T (isWire gs a boolean && isWire gs b boolean || isWire gs a bit && isWire gs b bit) → Alike (wires gs) a b
+mux-arms gs a b t =
+    ⊎-elim (alike gs a b boolean) (alike gs a b bit)
+    (or-cases (isWire gs a boolean && isWire gs b boolean) (isWire gs a bit && isWire gs b bit) t)
+
+-- a wire, and a sort that passes for one of uints
+converts : (gs : List Gate) (w : ℕ) (from to m : Sort) → ((v : ℕ) → T (holds to v)) → T (isWire gs w from && same m to)
+    → Converts (wires gs) w m
+converts gs w from to m any t = (
+  wire-below gs w from (search parts),
+  λ v. subst (λ (k : Sort). T (holds k v)) (sym (same-is m to (search parts))) (any v),
+)
+
+-- a convert reads a wire and makes a uint
+convert-parts : (gs : List Gate) (w : ℕ) (m : Sort)
+    → T (isWire gs w arithmetic && same m boolean || isWire gs w boolean && same m arithmetic) → Converts (wires gs) w m
+convert-parts gs w m t =
+    ⊎-elim (converts gs w arithmetic boolean m (λ v. tt)) (converts gs w boolean arithmetic m (λ v. tt))
+    (or-cases (isWire gs w arithmetic && same m boolean) (isWire gs w boolean && same m arithmetic) t)
+
+-- each gate that keeps the rules does what is used of them
+kept-of : (gs : List Gate) (g : Gate) → T (keepsRules gs g) → Kept (wires gs) g
+unfolding keepsRules
+kept-of gs (both o a b new) t =
+    (wire-below gs a (sideAt o) (search parts), wire-below gs b (sideAt o) (search parts), next-is gs new (search parts))
+kept-of gs (mux g a b new) t = (wire-below gs g bit (search parts), mux-arms gs a b (search parts), next-is gs new (search parts))
+kept-of gs (constant v m new) t = (search parts, next-is gs new (search parts))
+kept-of gs (convert w m new) t = (convert-parts gs w m (search parts), next-is gs new (search parts))
+kept-of gs (entry d n m new) t = next-is gs new (search parts depth 6)
+kept-of gs (output w) t = ltb→lt w (wires gs .count) t
+
+-- The wires, gate by gate.
+
+-- a new wire has the next number; an out makes none
+abbrev Next : Option ℕ → ℕ → Type 0
+Next none n = Unit {0}
+Next (some new) n = new ≡ n
+
+-- a gate that is kept makes the next wire
+kept-next : (w : Wires) (g : Gate) → Kept w g → Next (makes g) (w .count)
+kept-next w (both o a b new) kept = kept .2
+kept-next w (mux g a b new) kept = kept .2
+kept-next w (constant v m new) kept = kept .1
+kept-next w (convert x m new) kept = kept .1
+kept-next w (entry d n m new) kept = kept
+kept-next w (output x) kept = tt
+
+-- wire k is the new one, or stood before it
+new-or-before : (P : Bool → Type 0) (k new n : ℕ) → new ≡ n → k < suc n → (k ≡ new → P true) → (k < n → P false) → P (eqb k new)
+new-or-before P k new n next below here before = go (eqb k new) refl
+  where
+    go : (t : Bool) → eqb k new ≡ t → P t
+    go true e = here (eqb-true k new e)
+    go false e = before (omega (arith, eqb-false k new e))
+
+-- The plain values.
+
+-- an operator gives a value of its sort
+applied-good : (o : Op) (a b : ℕ) → Good (resultAt o) (applied o a b)
+unfolding applied
+applied-good add a b = (omega arith, tt)
+applied-good gt a b = go (ltb b a)
+  where
+    go : (t : Bool) → Good bit (cond t 1 0)
+    go true = (omega arith, tt)
+    go false = (omega arith, tt)
+
+-- either arm is good
+arm-good : (m : Sort) (g a b : ℕ) → Good m a → Good m b → Good m (arm g a b)
+unfolding arm
+arm-good m zero a b good good' = good'
+arm-good m (suc g) a b good good' = good
+
+-- a gate over good values gives a good value
+module _ (given : Given) (w : Wires) (value : ℕ → ℕ) (fits : (d n : ℕ) → given d n < 4294967296)
+    (good : (k : ℕ) → k < w .count → Good (w .sort k) (value k)) where
+  made-good : (g : Gate) → Kept w g → AllWords (gateWords g) → T (entryTest (λ d n m. holds m (given d n)) (some g))
+      → Good (sortMade (w .sort) g) (valueOf given value g)
+  unfolding sortMade valueOf
+  made-good (both o a b new) kept ws ok = applied-good o (value a) (value b)
+  made-good (mux g a b new) kept ws ok =
+      arm-good (w .sort a) (value g) (value a) (value b) (good a (kept .1 .0))
+      (subst (λ (m : Sort). Good m (value b)) (kept .1 .2) (good b (kept .1 .1)))
+  made-good (constant v m new) kept ws ok = (ws .1 .0, kept .0)
+  made-good (convert x m new) kept ws ok = (good x (kept .0 .0) .0, kept .0 .1 (value x))
+  made-good (entry d n m new) kept ws ok = (fits d n, ok)
+  made-good (output x) kept ws ok = good x kept
+
+-- one gate more, over good values
+good-step : (new : Option ℕ) (m : Sort) (v : ℕ) (w : Wires) (r : Reading) → Next new (w .count) → Good m v
+    → ((k : ℕ) → k < w .count → Good (w .sort k) (r .value k))
+    → (k : ℕ) → k < wired new m w .count → Good (wired new m w .sort k) (noted new v r .value k)
+unfolding wired noted
+good-step none m v w r next good before k below = before k below
+good-step (some new) m v w r next good before k below =
+    new-or-before (λ t. Good (cond t m (w .sort k)) (cond t v (r .value k))) k new (w .count) next below (λ e. good) (before k)
+
+-- the words of a list's first part
+words-left : (xs ys : List ℕ) → AllWords (xs ++ ys) → AllWords xs
+words-left [] ys ws = tt
+words-left (x ∷ xs) ys ws = (ws .0, words-left xs ys (ws .1))
+
+-- and of its second
+words-right : (xs ys : List ℕ) → AllWords (xs ++ ys) → AllWords ys
+words-right [] ys ws = ws
+words-right (x ∷ xs) ys ws = words-right xs ys (ws .1)
+
+-- the words of a circuit but for its newest gate
+words-before : (g : Gate) (gs : List Gate) → AllWords (circuitWords (g ∷ gs)) → AllWords (circuitWords gs)
+unfolding circuitWords
+words-before g gs ws = words-left (circuitWords gs) (gateWords g) ws
+
+-- and of that gate
+words-newest : (g : Gate) (gs : List Gate) → AllWords (circuitWords (g ∷ gs)) → AllWords (gateWords g)
+unfolding circuitWords
+words-newest g gs ws = words-right (circuitWords gs) (gateWords g) ws
+
+-- fit inputs fit a circuit but for its newest gate
+fit-before : (g : Gate) (gs : List Gate) {given : Given} → Fit (g ∷ gs) given → Fit gs given
+fit-before g gs fit = record { words = fit .words; bools = fit .bools .1 }
+
+-- every wire's value is a word, and one of its sort
+pub values-fit : (gs : List Gate) → AllKeep gs → AllWords (circuitWords gs) → {given : Given} → Fit gs given
+    → (k : ℕ) → k < wires gs .count → (plain given gs .value k < 4294967296) × T (holds (wires gs .sort k) (plain given gs .value k))
+unfolding wires plain
+values-fit [] keep ws fit = λ k below. absurd (omega arith)
+values-fit (g ∷ gs) keep ws {given} fit =
+    let kept = kept-of gs g (keep .0) in
+    let before = values-fit gs (keep .1) (words-before g gs ws) (fit-before g gs fit) in
+    good-step (makes g) _ _ (wires gs) (plain given gs) (kept-next (wires gs) g kept)
+    (made-good given (wires gs) (plain given gs .value) (fit .words) before g kept (words-newest g gs ws) (fit .bools .0)) before
+
+-- The shares.
+
+-- a gate gives the same over values that are the same on the wires that stand
+made-same : (given : Given) (w : Wires) (f g : ℕ → ℕ) → ((k : ℕ) → k < w .count → f k ≡ g k)
+    → (e : Gate) → Kept w e → valueOf given f e ≡ valueOf given g e
+unfolding valueOf
+made-same given w f g same (both o a b new) kept = ap₂ (applied o) (same a (kept .0)) (same b (kept .1))
+made-same given w f g same (mux c a b new) kept = rw (same c (kept .0), same a (kept .1 .0), same b (kept .1 .1))
+made-same given w f g same (constant v m new) kept = refl
+made-same given w f g same (convert x m new) kept = same x (kept .0 .0)
+made-same given w f g same (entry d n m new) kept = refl
+made-same given w f g same (output x) kept = same x kept
+
+module _ (tape : List ℕ) where
+  -- one gate more, for desk one
+  one-step : (new : Option ℕ) (m : Sort) (v : ℕ) (w : Wires) (d : Desks) → Next new (w .count)
+      → ((k : ℕ) → k < w .count → d .one k ≡ shareOne (w .sort k) (taken tape k))
+      → (k : ℕ) → k < wired new m w .count → dealt new m v tape d .one k ≡ shareOne (wired new m w .sort k) (taken tape k)
+  unfolding wired dealt
+  one-step none m v w d next before k below = before k below
+  one-step (some new) m v w d next before k below =
+      new-or-before (λ t. cond t (shareOne m (taken tape new)) (d .one k) ≡ shareOne (cond t m (w .sort k)) (taken tape k))
+      k new (w .count) next below (λ e. ap (λ (x : ℕ). shareOne m (taken tape x)) (sym e)) (before k)
+
+  -- and for desk two
+  two-step : (new : Option ℕ) (m : Sort) (v : ℕ) (w : Wires) (d : Desks) (r : Reading) → Next new (w .count)
+      → ((k : ℕ) → k < w .count → d .two k ≡ shareTwo (w .sort k) (r .value k) (taken tape k))
+      → (k : ℕ) → k < wired new m w .count
+      → dealt new m v tape d .two k ≡ shareTwo (wired new m w .sort k) (noted new v r .value k) (taken tape k)
+  unfolding wired dealt noted
+  two-step none m v w d r next before k below = before k below
+  two-step (some new) m v w d r next before k below =
+      new-or-before
+      (λ t. cond t (shareTwo m v (taken tape new)) (d .two k) ≡ shareTwo (cond t m (w .sort k)) (cond t v (r .value k)) (taken tape k))
+      k new (w .count) next below (λ e. ap (λ (x : ℕ). shareTwo m v (taken tape x)) (sym e)) (before k)
+
+-- desk one's share of a wire is its share of the tape word, whatever is given
+one-is : (gs : List Gate) → AllKeep gs → (given : Given) (tape : List ℕ) (k : ℕ) → k < wires gs .count
+    → shared given tape gs .one k ≡ shareOne (wires gs .sort k) (taken tape k)
+unfolding wires shared
+one-is [] keep given tape = λ k below. absurd (omega arith)
+one-is (g ∷ gs) keep given tape =
+    one-step tape (makes g) _ _ (wires gs) (shared given tape gs) (kept-next (wires gs) g (kept-of gs g (keep .0)))
+    (one-is gs (keep .1) given tape)
+
+module _ (given : Given) (tape : List ℕ) (taped : (k : ℕ) → getD tape k 0 < 4294967296) where
+  -- desk two's share of each wire is its share of the plain value
+  abbrev TwoIs : List Gate → Type 0
+  TwoIs gs = (k : ℕ) → k < wires gs .count
+      → shared given tape gs .two k ≡ shareTwo (wires gs .sort k) (plain given gs .value k) (taken tape k)
+
+  -- then the two desks' shares join to them
+  joined-is : (gs : List Gate) → AllKeep gs → AllWords (circuitWords gs) → Fit gs given → TwoIs gs
+      → (k : ℕ) → k < wires gs .count → joined (wires gs .sort) (shared given tape gs) k ≡ plain given gs .value k
+  unfolding taken
+  joined-is gs keep ws fit two k below =
+      let good = values-fit gs keep ws fit k below in
+      ap₂ (join (wires gs .sort k)) (one-is gs keep given tape k below) (two k below)
+      ∙ join-shares (wires gs .sort k) (plain given gs .value k) (getD tape k 0) (good .0) (good .1) (taped k)
+
+  -- then the next gate gives what it plainly gives
+  value-is : (g : Gate) (gs : List Gate) → AllKeep (g ∷ gs) → AllWords (circuitWords (g ∷ gs)) → Fit (g ∷ gs) given → TwoIs gs
+      → valueOf given (joined (wires gs .sort) (shared given tape gs)) g ≡ valueOf given (plain given gs .value) g
+  value-is g gs keep ws fit two =
+      made-same given (wires gs) (joined (wires gs .sort) (shared given tape gs)) (plain given gs .value)
+      (joined-is gs (keep .1) (words-before g gs ws) (fit-before g gs fit) two) g (kept-of gs g (keep .0))
+
+  -- so desk two's shares are those of the plain values, gate by gate
+  two-is : (gs : List Gate) → AllKeep gs → AllWords (circuitWords gs) → Fit gs given → TwoIs gs
+  unfolding wires shared plain
+  two-is [] keep ws fit = λ k below. absurd (omega arith)
+  two-is (g ∷ gs) keep ws fit =
+      let before = two-is gs (keep .1) (words-before g gs ws) (fit-before g gs fit) in
+      let m = sortMade (wires gs .sort) g in
+      let v = valueOf given (plain given gs .value) g in
+      rw (value-is g gs keep ws fit before)
+      (two-step tape (makes g) m v (wires gs) (shared given tape gs) (plain given gs)
+      (kept-next (wires gs) g (kept-of gs g (keep .0))) before)
+
+-- the two desks' shares of every wire join to its plain value
+pub shares-join : (gs : List Gate) → AllKeep gs → AllWords (circuitWords gs) → {given : Given} → Fit gs given
+    → (tape : List ℕ) → ((k : ℕ) → getD tape k 0 < 4294967296)
+    → (k : ℕ) → k < wires gs .count → joined (wires gs .sort) (shared given tape gs) k ≡ plain given gs .value k
+shares-join gs keep ws {given} fit tape taped = joined-is given tape taped gs keep ws fit (two-is given tape taped gs keep ws fit)
+
+-- one gate more, for the outputs
+outs-step : (new : Option ℕ) (m : Sort) (v : ℕ) (tape : List ℕ) (d : Desks) (r : Reading) → d .outs ≡ r .outs
+    → dealt new m v tape d .outs ≡ noted new v r .outs
+unfolding dealt noted
+outs-step none m v tape d r before = ap (λ (l : List ℕ). v ∷ l) before
+outs-step (some new) m v tape d r before = before
+
+-- the outputs that both desks get are the plain ones
+pub same-outputs : (gs : List Gate) → AllKeep gs → AllWords (circuitWords gs) → {given : Given} → Fit gs given
+    → (tape : List ℕ) → ((k : ℕ) → getD tape k 0 < 4294967296) → shared given tape gs .outs ≡ plain given gs .outs
+unfolding shared plain
+same-outputs [] keep ws fit tape taped = refl
+same-outputs (g ∷ gs) keep ws {given} fit tape taped =
+    let ws' = words-before g gs ws in
+    let fit' = fit-before g gs fit in
+    rw (value-is given tape taped g gs keep ws fit (two-is given tape taped gs (keep .1) ws' fit'))
+    (outs-step (makes g) (sortMade (wires gs .sort) g) (valueOf given (plain given gs .value) g) tape
+    (shared given tape gs) (plain given gs)
+    (same-outputs gs (keep .1) ws' fit' tape taped))
+
+-- Demand 3.
+
+-- words, listed: at every place a word
+listed-words : (n : ℕ) (f : ℕ → ℕ) → ((k : ℕ) → k < n → f k < 4294967296) → (k : ℕ) → getD (listed n f) k 0 < 4294967296
+listed-words n f words k = go (ltb k n) refl
+  where
+    go : (t : Bool) → ltb k n ≡ t → getD (listed n f) k 0 < 4294967296
+    go true e = rw (getD-listed n f k 0 (ltb-true k n e)) (words k (ltb-true k n e))
+    go false e = rw (List·getD-eq-default (listed n f) 0 {n = k} (omega (arith, length-listed n f, ltb-false k n e))) (omega arith)
+
+-- desk one's shares do not depend on what is given
+one-same : (gs : List Gate) → AllKeep gs → (given given' : Given) (tape : List ℕ) → sharesOne given tape gs ≡ sharesOne given' tape gs
+unfolding sharesOne
+one-same gs keep given given' tape =
+    listed-same (wires gs .count) (shared given tape gs .one) (shared given' tape gs .one)
+    (λ k below. one-is gs keep given tape k below ∙ sym (one-is gs keep given' tape k below))
+
+-- word k of the partner of a tape
+abbrev partnerAt : List Gate → Given → Given → List ℕ → ℕ → ℕ
+partnerAt gs given given' tape k =
+    partnerWord (wires gs .sort k) (plain given gs .value k) (plain given' gs .value k) (getD tape k 0)
+
+-- two fit sets of inputs of a circuit that keeps the rules
+module _ (gs : List Gate) (keep : AllKeep gs) (ws : AllWords (circuitWords gs)) {given given' : Given}
+    (fit : Fit gs given) (fit' : Fit gs given') (tape : List ℕ) (is : Tape gs tape) where
+  -- the partner has that word there
+  partner-at : (k : ℕ) → k < wires gs .count → getD (partner gs given given' tape) k 0 ≡ partnerAt gs given given' tape k
+  unfolding partner tapeFor taken
+  partner-at k below = getD-listed (wires gs .count) (partnerAt gs given given' tape) k 0 below
+
+  -- the partner of a tape is a tape
+  partner-tape : Tape gs (partner gs given given' tape)
+  unfolding partner tapeFor taken
+  partner-tape =
+      record {
+        long = length-listed (wires gs .count) (partnerAt gs given given' tape);
+        words = listed-words (wires gs .count) (partnerAt gs given given' tape)
+            (λ k below. partner-lt (wires gs .sort k) (plain given gs .value k) (plain given' gs .value k) (getD tape k 0)
+            (values-fit gs keep ws fit k below .0) (values-fit gs keep ws fit' k below .0) (is .words k));
+      }
+
+  -- the partner's partner, the other way, has the tape's words
+  back-at : (k : ℕ) → k < wires gs .count → partnerAt gs given' given (partner gs given given' tape) k ≡ getD tape k 0
+  back-at k below =
+      ap (partnerWord (wires gs .sort k) (plain given' gs .value k) (plain given gs .value k)) (partner-at k below)
+      ∙ partner-back (wires gs .sort k) (plain given gs .value k) (plain given' gs .value k) (getD tape k 0)
+      (values-fit gs keep ws fit k below .0) (values-fit gs keep ws fit' k below .0) (is .words k)
+
+  -- so it is the tape
+  partner-undone : partner gs given' given (partner gs given given' tape) ≡ tape
+  unfolding partner tapeFor taken
+  partner-undone =
+      listed-same (wires gs .count) (partnerAt gs given' given (partner gs given given' tape)) (λ k. getD tape k 0) back-at
+      ∙ listed-getD (wires gs .count) tape 0 (is .long)
+
+  -- desk two's share of a wire is the same with the tape and with its partner
+  two-at : (k : ℕ) → k < wires gs .count → shared given tape gs .two k ≡ shared given' (partner gs given given' tape) gs .two k
+  unfolding taken
+  two-at k below =
+      two-is given tape (is .words) gs keep ws fit k below
+      ∙ partner-two (wires gs .sort k) (plain given gs .value k) (plain given' gs .value k) (getD tape k 0)
+      (values-fit gs keep ws fit k below) (values-fit gs keep ws fit' k below) (is .words k)
+      ∙ ap (shareTwo (wires gs .sort k) (plain given' gs .value k)) (sym (partner-at k below))
+      ∙ sym (two-is given' (partner gs given given' tape) (partner-tape .words) gs keep ws fit' k below)
+
+  -- so desk two's shares are the same
+  two-same : sharesTwo given tape gs ≡ sharesTwo given' (partner gs given given' tape) gs
+  unfolding sharesTwo
+  two-same = listed-same (wires gs .count) (shared given tape gs .two) (shared given' (partner gs given given' tape) gs .two) two-at
+
+-- neither desk's shares tell two fit sets of inputs apart
+pub demand-three : (gs : List Gate) → AllKeep gs → AllWords (circuitWords gs) → {given given' : Given} → Fit gs given → Fit gs given'
+    → Private gs given given'
+demand-three gs keep ws {given} {given'} fit fit' =
+    record {
+      desk-one = one-same gs keep given given';
+      there = partner-tape gs keep ws fit fit';
+      back = partner-tape gs keep ws fit' fit;
+      there-back = partner-undone gs keep ws fit fit';
+      back-there = partner-undone gs keep ws fit' fit;
+      desk-two = two-same gs keep ws fit fit';
+    }
+
+-- What the checks say.
+
+-- where a list of two parts is empty, the first part is
+nil-left : (xs ys : List ℕ) → xs ++ ys ≡ [] → xs ≡ []
+nil-left [] ys e = refl
+nil-left (x ∷ xs) ys e = absurd (cons≢nil e)
+
+-- and the second is
+nil-right : (xs ys : List ℕ) → xs ++ ys ≡ [] → ys ≡ []
+nil-right [] ys e = e
+nil-right (x ∷ xs) ys e = absurd (cons≢nil e)
+
+-- no fault: the test is true
+no-fault : (t : Bool) (p : ℕ) → fault t p ≡ [] → T t
+unfolding fault
+no-fault true p e = tt
+no-fault false p e = absurd (cons≢nil e)
+
+-- where no place below n + 1 fails, none below n does
+none-before : (ok : ℕ → Bool) (n : ℕ) → failingBelow ok (suc n) ≡ [] → failingBelow ok n ≡ []
+unfolding failingBelow
+none-before ok n e = nil-left (failingBelow ok n) (fault (ok n) n) e
+
+-- and place n passes
+passes-last : (ok : ℕ → Bool) (n : ℕ) → failingBelow ok (suc n) ≡ [] → T (ok n)
+unfolding failingBelow
+passes-last ok n e = no-fault (ok n) n (nil-right (failingBelow ok n) (fault (ok n) n) e)
+
+-- one gate more keeps the rules
+keep-step : (g : Option Gate) (gs : List Gate) → T (keeps gs g) → AllKeep gs → AllKeep (added g gs)
+keep-step none gs ok keep = absurd ok
+keep-step (some g) gs ok keep = (ok, keep)
+
+-- where no gate fails check 21, all keep the rules
+pub keeps-of : (c : List ℕ) (n : ℕ) → failingBelow (check21 c) n ≡ [] → AllKeep (gatesTo c n)
+unfolding gatesTo check21
+keeps-of c zero e = tt
+keeps-of c (suc n) e =
+    keep-step (gateAt c n) (gatesTo c n) (passes-last (check21 c) n e) (keeps-of c n (none-before (check21 c) n e))
+
+-- Five words and the gate that they are.
+
+-- these are the words of the gate, if it is one
+abbrev Written : Option Gate → List ℕ → Type 0
+Written none ws = Unit {0}
+Written (some g) ws = gateWords g ≡ ws
+
+-- an unlisted word is 0
+written-unlisted : (d : ℕ) (g : Option Gate) (ws : ℕ → List ℕ) → Written g (ws 0) → Written (unlisted d g) (ws d)
+written-unlisted zero g ws is = is
+written-unlisted (suc d) g ws is = tt
+
+-- a sort's word is its number
+written-sort : (n : ℕ) (g : Sort → Gate) (ws : ℕ → List ℕ) → ((m : Sort) → gateWords (g m) ≡ ws (sortNumber m))
+    → Written (withSort (sortNumbered n) g) (ws n)
+unfolding sortNumbered
+written-sort zero g ws is = tt
+written-sort (suc zero) g ws is = is arithmetic
+written-sort (suc (suc zero)) g ws is = is boolean
+written-sort (suc (suc (suc zero))) g ws is = is bit
+written-sort (suc (suc (suc (suc n)))) g ws is = tt
+
+-- the gate of five words has these words
+written : (k a b c d : ℕ) → Written (gateOf (getD gateKinds k unknown) a b c d) (k ∷ a ∷ b ∷ c ∷ d ∷ [])
+unfolding gateKinds gateOf
+written zero a b c d = tt
+written (suc zero) a b c d = written-unlisted d (some (both add a b c)) (λ x. 1 ∷ a ∷ b ∷ c ∷ x ∷ []) refl
+written (suc (suc zero)) a b c d = refl
+written (suc (suc (suc zero))) a b c d = written-unlisted d (some (both gt a b c)) (λ x. 3 ∷ a ∷ b ∷ c ∷ x ∷ []) refl
+written (suc (suc (suc (suc zero)))) a b c d =
+    written-unlisted d (withSort (sortNumbered b) (λ m. constant a m c)) (λ x. 4 ∷ a ∷ b ∷ c ∷ x ∷ [])
+    (written-sort b (λ m. constant a m c) (λ x. 4 ∷ a ∷ x ∷ c ∷ 0 ∷ []) (λ m. refl))
+written (suc (suc (suc (suc (suc zero))))) a b c d =
+    written-unlisted d (withSort (sortNumbered b) (λ m. convert a m c)) (λ x. 5 ∷ a ∷ b ∷ c ∷ x ∷ [])
+    (written-sort b (λ m. convert a m c) (λ x. 5 ∷ a ∷ x ∷ c ∷ 0 ∷ []) (λ m. refl))
+written (suc (suc (suc (suc (suc (suc zero)))))) a b c d = written-sort c (λ m. entry a b m d) (λ x. 6 ∷ a ∷ b ∷ x ∷ d ∷ []) (λ m. refl)
+written (suc (suc (suc (suc (suc (suc (suc zero))))))) a b c d =
+    written-unlisted b (unlisted c (unlisted d (some (output a)))) (λ x. 7 ∷ a ∷ x ∷ c ∷ d ∷ [])
+    (written-unlisted c (unlisted d (some (output a))) (λ x. 7 ∷ a ∷ 0 ∷ x ∷ d ∷ [])
+    (written-unlisted d (some (output a)) (λ x. 7 ∷ a ∷ 0 ∷ 0 ∷ x ∷ []) refl))
+written (suc (suc (suc (suc (suc (suc (suc (suc k)))))))) a b c d = tt
+
+-- the words of gate i of a circuit's words
+abbrev pub fiveWords : List ℕ → ℕ → List ℕ
+fiveWords c i = gateWord c i 0 ∷ gateWord c i 1 ∷ gateWord c i 2 ∷ gateWord c i 3 ∷ gateWord c i 4 ∷ []
+
+-- they are the words of the gate at i, if it is one
+written-at : (c : List ℕ) (i : ℕ) → Written (gateAt c i) (fiveWords c i)
+unfolding gateAt
+written-at c i = written (gateWord c i 0) (gateWord c i 1) (gateWord c i 2) (gateWord c i 3) (gateWord c i 4)
+
+-- the gate at i has the five words from 5 * i on
+pub decoded : (c : List ℕ) (i : ℕ) (g : Gate) → gateAt c i ≡ some g → gateWords g ≡ fiveWords c i
+decoded c i g e = subst (λ (o : Option Gate). Written o (fiveWords c i)) e (written-at c i)
+
+-- word k of words is a word, and past the end 0
+pub word-at : (ws : List ℕ) → AllWords ws → (k : ℕ) → getD ws k 0 < 4294967296
+word-at [] words k = omega arith
+word-at (w ∷ ws) words zero = words .0
+word-at (w ∷ ws) words (suc k) = word-at ws (words .1) k
+
+-- five words of words are words
+five-words : (c : List ℕ) (i : ℕ) → AllWords c → AllWords (fiveWords c i)
+unfolding gateWord
+five-words c i words = (at 0, (at 1, (at 2, (at 3, (at 4, tt)))))
+  where
+    at : (k : ℕ) → getD c (5 * i + k) 0 < 4294967296
+    at k = word-at c words (5 * i + k)
+
+-- words and more words
+words-append : (xs ys : List ℕ) → AllWords xs → AllWords ys → AllWords (xs ++ ys)
+words-append [] ys ws vs = vs
+words-append (x ∷ xs) ys ws vs = (ws .0, words-append xs ys (ws .1) vs)
+
+-- one gate more has words
+words-step : (g : Option Gate) (gs : List Gate) (ws : List ℕ) → Written g ws → AllWords ws → AllWords (circuitWords gs)
+    → AllWords (circuitWords (added g gs))
+unfolding circuitWords
+words-step none gs ws is words before = before
+words-step (some g) gs ws is words before = words-append (circuitWords gs) (gateWords g) before (subst AllWords (sym is) words)
+
+-- the gates of words have words
+pub words-of : (c : List ℕ) (n : ℕ) → AllWords c → AllWords (circuitWords (gatesTo c n))
+unfolding gatesTo circuitWords
+words-of c zero words = tt
+words-of c (suc n) words =
+    words-step (gateAt c n) (gatesTo c n) (fiveWords c n) (written-at c n) (five-words c n words) (words-of c n words)
+
+-- one gate more reads fit bools
+bools-step : (given : Given) (g : Option Gate) (gs : List Gate) → T (entryTest (λ d n m. holds m (given d n)) g) → FitBools given gs
+    → FitBools given (added g gs)
+bools-step given none gs ok before = before
+bools-step given (some g) gs ok before = (ok, before)
+
+-- where no gate fails check 23, every bool read is 0 or 1
+bools-of : (c : List ℕ) (given : Given) (n : ℕ) → failingBelow (λ i. entryTest (λ d k m. holds m (given d k)) (gateAt c i)) n ≡ []
+    → FitBools given (gatesTo c n)
+unfolding gatesTo
+bools-of c given zero e = tt
+bools-of c given (suc n) e =
+    let ok : ℕ → Bool = λ i. entryTest (λ d k m. holds m (given d k)) (gateAt c i) in
+    bools-step given (gateAt c n) (gatesTo c n) (passes-last ok n e) (bools-of c given n (none-before ok n e))
+
+-- the desks' inputs are words
+inputs-word : (one two : List ℕ) → AllWords one → AllWords two → (d n : ℕ) → inputs one two d n < 4294967296
+unfolding inputs
+inputs-word one two ones twos d n = go (eqb d 1)
+  where
+    go : (t : Bool) → getD (cond t one two) n 0 < 4294967296
+    go true = word-at one ones n
+    go false = word-at two twos n
+
+-- inputs that pass check 23 fit the circuit
+pub fit-of : (c one two : List ℕ) → failing23 c one two ≡ [] → AllWords one → AllWords two
+    → Fit (gatesTo c (gateCount c)) (inputs one two)
+unfolding failing23
+fit-of c one two e ones twos =
+    record { words = inputs-word one two ones twos; bools = bools-of c (inputs one two) (gateCount c) e }
