@@ -16,7 +16,7 @@ use Rattle.rules.specs.Types.{typeE, isA, isPlain, clashTo, typed, check
 use Rattle.rules.specs.Labels.{Rule, reads, stores, rulesOf, inputsOf, Has, Keeps, public, check7}
 use Rattle.rules.specs.Counts.{countK, count, counted, check8}
 use Rattle.rules.specs.Sorts.{Sort, keptAt}
-use Rattle.rules.proofs.Places.{Each, each-left, each-right}
+use Rattle.rules.proofs.Sites.{Each, each-left, each-right}
 use Rattle.rules.proofs.Formed.{and-left, and-right, InputRow, FormedE, FormedS}
 use Rattle.rules.proofs.InputSorts.{AtInputSort}
 use Rattle.rules.proofs.Fine.{labelK, ReadsName, StoresName, Indexes, TwoSides, Chooses, ReadsInput, Free, FineE, FineS}

@@ -14,7 +14,7 @@ use Rattle.rules.specs.Tree.{Expr, number, truth, name, two, choose, ele
 use Rattle.rules.specs.Sites.{Node, ofE, ofS, Site}
 use Rattle.rules.specs.Types.{differs, clashTo, typed, check6}
 use Rattle.rules.specs.Sorts.{Sort, arithmetic, keptAt}
-use Rattle.rules.proofs.Places.{Each}
+use Rattle.rules.proofs.Sites.{Each}
 use Rattle.rules.proofs.Formed.{InputRow}
 
 -- the type at which a node reads input n of desk d, if it does

@@ -1,4 +1,9 @@
 pub mod Places
+pub mod Sites
+pub mod Ladders
+pub mod Refusals
+pub mod Least
+pub mod Labels
 pub mod Formed
 pub mod InputSorts
 pub mod Sited
@@ -10,9 +15,12 @@ pub mod Cells
 pub mod Statements
 pub mod Accesses
 pub mod Circuits
+pub mod Bounds
+pub mod Accepted
 pub mod Texts
 pub mod Xor
 pub mod Listed
 pub mod Shares
+pub mod Memories
 pub mod Loops
 pub mod Cases

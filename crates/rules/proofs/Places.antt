@@ -1,10 +1,10 @@
--- Laws of the order of refusals: which places fail, the lowest of them, and a ladder of checks one after another.
+-- The laws of the order of refusals: which places fail, the lowest of them, and one check before what comes next.
 use Prim.Native.Nat.{ℕ, zero, suc, min, _≤_, _<_}
-use mathlib.Core.Path.{_≡_, refl, sym, subst, ap, _∙_}
+use mathlib.Core.Path.{_≡_, refl, subst, ap, _∙_}
 use mathlib.Core.Logic.{_⊎_, inl, inr, ⊎-elim, _↔_}
 use mathlib.Core.Bool.{Bool, true, false, not}
 use mathlib.Core.List.{List, [], _∷_, _++_, cons≢nil}
-use lib.Dec.{T, T-not, not-T}
+use lib.Dec.{T, T-not}
 use native.Mathlib.Decide.{decLe}
 use native.Mathlib.Omega.{arith}
 use Rattle.rules.specs.Places.{Verdict, refused, accepted, fault, failingBelow, lowest, unless, andThen}
@@ -74,11 +74,12 @@ nothing-in (x ∷ xs) h = absurd (h x (inl refl))
 pub in-none : (p : ℕ) (xs : List ℕ) → xs ≡ [] → In p xs → ⊥
 in-none p xs e i = rw e at i
 
--- two lists after one another are empty: so are both
+-- where two lists after one another are empty, so is the first,
 pub nil-left : (xs ys : List ℕ) → xs ++ ys ≡ [] → xs ≡ []
 nil-left [] ys e = refl
 nil-left (x ∷ xs) ys e = absurd (cons≢nil e)
 
+-- and the second
 pub nil-right : (xs ys : List ℕ) → xs ++ ys ≡ [] → ys ≡ []
 nil-right [] ys e = e
 nil-right (x ∷ xs) ys e = absurd (cons≢nil e)
@@ -88,7 +89,7 @@ pub true-of : (t : Bool) → T t → t ≡ true
 true-of true h = refl
 true-of false h = absurd h
 
--- the one place that a test can fail at
+-- a failing test has the one place it stands at
 pub in-fault : (b : Bool) (p q : ℕ) → In p (fault b q) ↔ ((p ≡ q) × T (not b))
 unfolding fault
 in-fault true p q = (λ i. absurd i, λ h. absurd (h .1))
@@ -106,7 +107,7 @@ unfolding fault
 none-fault true p t = refl
 none-fault false p t = absurd t
 
--- the same for a place of its own: it fails its own test
+-- the same of a test at its own place
 in-fault-at : (ok : ℕ → Bool) (n p : ℕ) → In p (fault (ok n) n) ↔ ((p ≡ n) × T (not (ok p)))
 in-fault-at ok n p = (there, back)
   where
@@ -116,7 +117,7 @@ in-fault-at ok n p = (there, back)
     back : (p ≡ n) × T (not (ok p)) → In p (fault (ok n) n)
     back h = in-fault (ok n) p n .1 (h .0, subst (λ (k : ℕ). T (not (ok k))) (h .0) (h .1))
 
--- the places below n that fail a test are the failing ones, and no more
+-- the failing places below n are the places below n that fail
 pub in-failing-below : (ok : ℕ → Bool) (n p : ℕ) → In p (failingBelow ok n) ↔ ((p < n) × T (not (ok p)))
 unfolding failingBelow
 in-failing-below ok zero p = (λ i. absurd i, λ h. absurd (omega arith))
@@ -164,45 +165,6 @@ failing-last ok n = (
   λ h. rw (h .1) (none-fault (ok n) n (h .0)),
 )
 
--- of every site of a list
-abbrev pub Each : (Site → Type 0) → List Site → Type 0
-Each P [] = Unit {0}
-Each P (s ∷ ss) = P s × Each P ss
-
--- where one statement implies another, of each site
-pub each-map : {P Q : Site → Type 0} (ss : List Site) → ((s : Site) → P s → Q s) → Each P ss → Each Q ss
-each-map [] f h = tt
-each-map (s ∷ ss) f h = (f s (h .0), each-map ss f (h .1))
-
--- of the first of two lists
-pub each-left : (P : Site → Type 0) (ss rs : List Site) → Each P (ss ++ rs) → Each P ss
-each-left P [] rs h = tt
-each-left P (s ∷ ss) rs h = (h .0, each-left P ss rs (h .1))
-
--- of the second of two lists
-pub each-right : (P : Site → Type 0) (ss rs : List Site) → Each P (ss ++ rs) → Each P rs
-each-right P [] rs h = h
-each-right P (s ∷ ss) rs h = each-right P ss rs (h .1)
-
--- of two lists after one another
-pub each-both : (P : Site → Type 0) (ss rs : List Site) → Each P ss → Each P rs → Each P (ss ++ rs)
-each-both P [] rs h k = k
-each-both P (s ∷ ss) rs h k = (h .0, each-both P ss rs (h .1) k)
-
--- where no site fails, each passes
-pub none-failing : (ok : Site → Bool) (ss : List Site) → failing ok ss ≡ [] → Each (λ s. T (ok s)) ss
-unfolding failing
-none-failing ok [] e = tt
-none-failing ok (s ∷ ss) e =
-    let row = fault (ok s) (rowN (s .node)) in
-    (fault-none (ok s) (rowN (s .node)) (nil-left row (failing ok ss) e), none-failing ok ss (nil-right row (failing ok ss) e))
-
--- where each site passes, none fails
-pub failing-none : (ok : Site → Bool) (ss : List Site) → Each (λ s. T (ok s)) ss → failing ok ss ≡ []
-unfolding failing
-failing-none ok [] h = refl
-failing-none ok (s ∷ ss) h = rw (none-fault (ok s) (rowN (s .node)) (h .0)) (failing-none ok ss (h .1))
-
 -- a check with a lowest failing place refuses there
 pub unless-refused : {A : Type 0} (k : ℕ) (ps : List ℕ) (next : Unit {0} → Verdict A) {p : ℕ} → Lowest p ps → unless k ps next ≡ refused k p
 unfolding unless
@@ -215,61 +177,27 @@ unfolding unless
 unless-passed k [] next e = refl
 unless-passed k (q ∷ qs) next e = absurd (cons≢nil e)
 
--- A ladder of checks: each rung has a number and the places that fail it, and above the last stands a verdict.
-pub record Rung : Type 0 where
-  pub number : ℕ
-  pub places : List ℕ
-
-abbrev pub rung : ℕ → List ℕ → Rung
-rung k ps = record { number = k; places = ps }
-
-abbrev pub ladder : {A : Type 0} → List Rung → Verdict A → Verdict A
-ladder [] v = v
-ladder (r ∷ rs) v = unless (r .number) (r .places) λ u. ladder rs v
-
--- the failing places of all rungs, and of the n before rung n
-abbrev pub all : List Rung → List (List ℕ)
-all [] = []
-all (r ∷ rs) = r .places ∷ all rs
-
-abbrev pub before : ℕ → List Rung → List (List ℕ)
-before zero rs = []
-before (suc n) [] = []
-before (suc n) (r ∷ rs) = r .places ∷ before n rs
-
--- rung n
-abbrev pub at : ℕ → List Rung → Rung
-at n [] = rung 0 []
-at zero (r ∷ rs) = r
-at (suc n) (r ∷ rs) = at n rs
-
--- the first rung with a failing place refuses, at its lowest
-pub refuses-at : {A : Type 0} (n : ℕ) (rs : List Rung) (v : Verdict A) {p : ℕ} → Clear (before n rs) → Lowest p (at n rs .places)
-    → ladder rs v ≡ refused (at n rs .number) p
-refuses-at n [] v c l = absurd (lowest-of-none l)
-refuses-at zero (r ∷ rs) v c l = unless-refused (r .number) (r .places) (λ u. ladder rs v) l
-refuses-at (suc n) (r ∷ rs) v c l = unless-passed (r .number) (r .places) (λ u. ladder rs v) (c .0) ∙ refuses-at n rs v (c .1) l
-
--- a ladder with no failing place leads to its verdict
-pub accepts : {A : Type 0} (rs : List Rung) (v : Verdict A) → Clear (all rs) → ladder rs v ≡ v
-accepts [] v c = refl
-accepts (r ∷ rs) v c = unless-passed (r .number) (r .places) (λ u. ladder rs v) (c .0) ∙ accepts rs v (c .1)
-
--- A statement of verdicts in each case of a ladder: of the refusal at each rung, and of the verdict above.
-abbrev pub Cases : {A : Type 0} → (Verdict A → Type 0) → List (List ℕ) → List Rung → Verdict A → Type 0
-Cases P passed [] v = Clear passed → P v
-Cases P passed (r ∷ rs) v = ((p : ℕ) → Clear passed → Lowest p (r .places) → P (refused (r .number) p)) × Cases P (passed ++ r .places ∷ []) rs v
-
--- one more check is passed
-clear-more : (pss : List (List ℕ)) (ps : List ℕ) → Clear pss → ps ≡ [] → Clear (pss ++ ps ∷ [])
-clear-more [] ps c e = (e, tt)
-clear-more (qs ∷ qss) ps c e = (c .0, clear-more qss ps (c .1) e)
-
--- what holds in each case of a ladder holds of its verdict
-pub by-cases : {A : Type 0} (P : Verdict A → Type 0) (pss : List (List ℕ)) (rs : List Rung) (v : Verdict A) → Clear pss → Cases P pss rs v → P (ladder rs v)
-by-cases P pss [] v c h = h c
-by-cases P pss (r ∷ rs) v c h = go (r .places) refl (λ d. by-cases P (pss ++ r .places ∷ []) rs v d (h .1))
+-- a refusal is no acceptance
+pub refused≢accepted : {A : Type 0} {k p : ℕ} {a : A} → refused k p ≡ accepted a → ⊥
+refused≢accepted {A} e = subst IsRefused e tt
   where
-    go : (ps : List ℕ) → r .places ≡ ps → (Clear (pss ++ r .places ∷ []) → P (ladder rs v)) → P (unless (r .number) ps λ u. ladder rs v)
-    go [] e rec = unfold unless in rec (clear-more pss (r .places) c e)
-    go (p ∷ ps) e rec = unfold unless in h .0 (lowest p ps) c (rw e (lowest-is p ps))
+    IsRefused : Verdict A → Type 0
+    IsRefused (refused k p) = Unit {0}
+    IsRefused (accepted a) = ⊥
+
+-- what is accepted past a check has passed it
+pub unless-accepted : {A : Type 0} (k : ℕ) (ps : List ℕ) (next : Unit {0} → Verdict A) {a : A} → unless k ps next ≡ accepted a
+    → (ps ≡ []) × (next tt ≡ accepted a)
+unfolding unless
+unless-accepted k [] next e = (refl, e)
+unless-accepted k (q ∷ qs) next e = absurd (refused≢accepted e)
+
+-- what refuses first refuses the whole
+pub then-refused : {A B : Type 0} {v : Verdict A} (next : A → Verdict B) {k p : ℕ} → v ≡ refused k p → andThen v next ≡ refused k p
+unfolding andThen
+then-refused next e = ap (λ v. andThen v next) e
+
+-- what accepts first leaves the answer to the second
+pub then-accepted : {A B : Type 0} {v : Verdict A} (next : A → Verdict B) {a : A} → v ≡ accepted a → andThen v next ≡ next a
+unfolding andThen
+then-accepted next e = ap (λ v. andThen v next) e

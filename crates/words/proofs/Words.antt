@@ -9,7 +9,7 @@ use lib.Dec.{eqb}
 use borrow.Author.Tests.{eqb-true, eqb-false}
 use lib.ListN.{length, getD, set, take, drop, length-set, length-append, length-drop}
 use lib.Seq.{getD-set-same, getD-set-other, ext-getD, take-at}
-use Rattle.words.specs.Words.{joined, putAt, words, bytesOf, over, AllWords}
+use Rattle.words.specs.Words.{joined, putAt, words, bytesOf, over, AllWords, AllBytes}
 
 -- word i, read off its four bytes
 abbrev pub wordAt : List ℕ → ℕ → ℕ
@@ -170,3 +170,15 @@ words-read-back ws h = rw (append-nil (bytesOf ws), append-nil ws) at (words-ove
 pub over-front : (ws b : List ℕ) → take (4 * length ws) (over ws b) ≡ bytesOf ws
 unfolding over
 over-front ws b = take-at (bytesOf ws) (drop (4 * length ws) b) (4 * length ws) (bytes-length ws)
+
+-- the words of bytes are words
+pub bytes-are-words : (b : List ℕ) → AllBytes b → AllWords (words b)
+unfolding words
+bytes-are-words [] h = tt
+bytes-are-words (a ∷ []) h = tt
+bytes-are-words (a ∷ b ∷ []) h = tt
+bytes-are-words (a ∷ b ∷ c ∷ []) h = tt
+bytes-are-words (a ∷ b ∷ c ∷ d ∷ rest) h = (
+  omega (arith, h .0, h .1 .0, h .1 .1 .0, h .1 .1 .1 .0),
+  bytes-are-words rest (h .1 .1 .1 .1),
+)
