@@ -1,19 +1,18 @@
 -- What follows when a table is accepted: its labels are the smallest set, its outputs those of the direct reading, its circuit
 -- keeps the rules, and no access passes an end.
-use Prim.Native.Nat.{ℕ, zero, suc, _+_, _*_, _/_, _%_, _≤_, _<_}
-use mathlib.Core.Path.{_≡_, refl, sym, subst, ap, _∙_}
+use Prim.Native.Nat.{ℕ, _%_, _≤_, _<_}
+use mathlib.Core.Path.{_≡_}
 use mathlib.Core.Logic.{_↔_}
-use mathlib.Core.Bool.{Bool, true, false, _&&_}
-use mathlib.Core.Option.{Option, none, some}
+use mathlib.Core.Bool.{Bool, _&&_}
 use mathlib.Core.List.{List, [], _∷_}
 use lib.Dec.{T, eqb, ltb, leb, eqb→eq, ltb→lt, leb→le}
 use lib.ListN.{length}
 use native.Mathlib.Omega.{arith}
 use Rattle.words.specs.Words.{words, bytesOf, AllWords}
-use Rattle.rules.specs.Places.{Verdict, accepted}
+use Rattle.rules.specs.Places.{accepted}
 use Rattle.rules.specs.Rows.{tableFits, rowCount, rowShaped}
 use Rattle.rules.specs.Scope.{lookup, after}
-use Rattle.rules.specs.Sites.{Site, sites}
+use Rattle.rules.specs.Sites.{Site}
 use Rattle.rules.specs.Names.{check5}
 use Rattle.rules.specs.Types.{check6}
 use Rattle.rules.specs.Labels.{allRules, allInputs, Closed, Secret, check7}
@@ -24,7 +23,7 @@ use Rattle.rules.specs.Run.{State, run, start}
 use Rattle.rules.specs.Plain.{Given, plain}
 use Rattle.rules.specs.Direct.{follow, begin}
 use Rattle.rules.specs.Accesses.{AllBelow, readAccesses, runAccesses}
-use Rattle.rules.specs.Answers.{programOf, rowsOf, sitesOf, secretIn, runOf, built, failing1, failing2, failing3, failing5, failing6, failing7, failing8, failing10, failing20, failing21, gatesOf}
+use Rattle.rules.specs.Answers.{programOf, rowsOf, sitesOf, secretIn, runOf, built, failing1, failing2, failing5, failing6, failing7, failing8, failing10, failing20, failing21, gatesOf}
 use Rattle.rules.proofs.Places.{fault-none, none-below}
 use Rattle.rules.proofs.Sites.{Each, each-map, none-failing}
 use Rattle.rules.proofs.Refusals.{built-accepted}
@@ -36,7 +35,7 @@ use Rattle.rules.proofs.Fine.{FineS}
 use Rattle.rules.proofs.Checked.{Passes, fine-stmt}
 use Rattle.rules.proofs.Making.{AllSound, sound-keeps}
 use Rattle.rules.proofs.Statements.{Holds, stmt-agrees, start-holds}
-use Rattle.rules.proofs.Accesses.{Below, stmt-below}
+use Rattle.rules.proofs.Accesses.{stmt-below}
 use Rattle.rules.proofs.Circuits.{never-20-21, gates-of-bytes}
 use Rattle.rules.proofs.Bounds.{sound-words}
 
@@ -152,7 +151,7 @@ module _ (table : List ℕ) {s : State} (yes : built table ≡ accepted s) where
   at-most-3000 = rw is-run few-gates
 
   -- compiled circuits are never refused with 20 or 21, and are read back gate by gate
-  pub never-refused : (failing20 (bytesOf (circuitWords (s .gates))) ≡ []) × (failing21 (bytesOf (circuitWords (s .gates))) ≡ [])
+  pub never-refused : (failing20 (bytesOf (circuitWords (s .gates))) ≡ []) × (failing21 (words (bytesOf (circuitWords (s .gates)))) ≡ [])
   never-refused = never-20-21 (s .gates) keeps-rules in-words at-most-3000
 
   pub read-back : gatesOf (bytesOf (circuitWords (s .gates))) ≡ s .gates

@@ -1,26 +1,24 @@
 -- No access passes an end: in a fine program every array access of the direct reading and of the run is below the length.
-use Prim.Native.Nat.{ℕ, zero, suc, _+_, _*_, _-_, _≤_, _<_}
-use mathlib.Core.Path.{_≡_, refl, sym, subst, ap, _∙_}
-use mathlib.Core.Bool.{Bool, true, false}
-use mathlib.Core.Option.{Option, none, some}
+use Prim.Native.Nat.{ℕ, zero, suc, _-_, _≤_, _<_}
+use mathlib.Core.Path.{_≡_}
+use mathlib.Core.Bool.{Bool}
+use mathlib.Core.Option.{some}
 use mathlib.Core.List.{List, [], _∷_, _++_}
-use lib.Dec.{T}
 use native.Mathlib.Omega.{arith}
-use Rattle.rules.specs.Rows.{Ty, uint}
-use Rattle.rules.specs.Tree.{Expr, number, truth, name, two, choose, element, input, rowE}
+use Rattle.rules.specs.Rows.{uint}
+use Rattle.rules.specs.Tree.{Expr, number, truth, name, two, choose, element, input}
 use Rattle.rules.specs.Tree.{Stmt, declare, assign, loop, write, branch, out, then}
-use Rattle.rules.specs.Scope.{Known, Scope, lookup, lengthK, lengthFound, inLoop, after}
+use Rattle.rules.specs.Scope.{Known, Scope, lookup, lengthK, inLoop, after}
 use Rattle.rules.specs.Types.{typeE}
-use Rattle.rules.specs.Counts.{count}
 use Rattle.rules.specs.Sorts.{Sort, arm}
-use Rattle.rules.specs.Run.{Val, known, held, State, numberOf, put, stepped, runE, run, start}
+use Rattle.rules.specs.Run.{Val, known, held, State, numberIn, put, stepped, runE, run}
 use Rattle.rules.specs.Plain.{Given}
-use Rattle.rules.specs.Direct.{direct, Now, keep, follow, begin}
+use Rattle.rules.specs.Direct.{direct, Now, keep, follow}
 use Rattle.rules.specs.Accesses.{Access, access, AllBelow, gathered, readAccessesE, readAccesses, byGuard, runAccessesE, runAccesses}
-use Rattle.rules.proofs.Making.{isHeld, number-worth}
+use Rattle.rules.proofs.Making.{number-worth}
 use Rattle.rules.proofs.Fine.{Free, Indexes, FineE, FineS}
-use Rattle.rules.proofs.Expressions.{Agrees, agrees-more, index-below, expr-agrees}
-use Rattle.rules.proofs.Statements.{Holds, stepped-holds, holds-more, enter, turn-holds, stmt-agrees, start-holds}
+use Rattle.rules.proofs.Expressions.{Agrees, index-below, expr-agrees}
+use Rattle.rules.proofs.Statements.{Holds, stepped-holds, holds-more, enter, turn-holds, stmt-agrees}
 
 -- accesses one after another
 below-both : (xs ys : List Access) → AllBelow xs → AllBelow ys → AllBelow (xs ++ ys)
@@ -52,7 +50,7 @@ module _ (S : ℕ → Bool) (given : Given) (σ : ℕ → ℕ → Sort) where
 
   -- an index in the run is the direct reading's
   run-index : (i : Expr) (sc : Scope) (c : List ℕ) (s : State) (x : ℕ) (b : Known) → lookup sc x ≡ some b → Indexes S sc b i → FineE S σ sc i → Agrees S given sc c s
-      → numberOf (runE S i s .val) < lengthK b
+      → numberIn (runE S i s .val) < lengthK b
   run-index i sc c s x b e n f a =
       let g = expr-agrees S given σ sc c i f s a in
       let v = number-worth given σ (runE S i s .st) (typeE sc i) (runE S i s .val) (direct given i c) (λ t. n .public (g .label t)) (g .worth) in
@@ -74,7 +72,7 @@ module _ (S : ℕ → Bool) (given : Given) (σ : ℕ → ℕ → Sort) where
       by-guard (known t n) p q = below-arm n (runAccessesE S sc s e) (runAccessesE S sc s g) p q
       by-guard (held w m) p q = below-both (runAccessesE S sc s e) (runAccessesE S sc s g) p q
   run-expr-below (element r x i) sc c s f a =
-      below-both (runAccessesE S sc s i) (access sc x (numberOf (runE S i s .val)) ∷ []) (run-expr-below i sc c s (f .2) a)
+      below-both (runAccessesE S sc s i) (access sc x (numberIn (runE S i s .val)) ∷ []) (run-expr-below i sc c s (f .2) a)
       (rw (f .0 .found) (run-index i sc c s x (f .0 .is) (f .0 .found) (f .1) (f .2) a), tt)
   run-expr-below (input r t d n) sc c s f a = tt
 
@@ -132,9 +130,9 @@ module _ (S : ℕ → Bool) (given : Given) (σ : ℕ → ℕ → Sort) where
             (read-expr-below i sc (d .cells) s (f .2) (a .cells))
             (below-both (readAccessesE given sc (d .cells) e) (access sc x (direct given i (d .cells)) ∷ []) (read-expr-below e sc (d .cells) s (f .3) (a .cells))
             (rw (f .0 .found) (index-below S given σ sc (d .cells) s (a .cells) x (f .0 .is) (f .0 .found) i (f .1 .below)), tt));
-        run = below-both (runAccessesE S sc (stepped s) i) (runAccessesE S sc (m .st) e ++ access sc x (numberOf (m .val)) ∷ [])
+        run = below-both (runAccessesE S sc (stepped s) i) (runAccessesE S sc (m .st) e ++ access sc x (numberIn (m .val)) ∷ [])
             (run-expr-below i sc (d .cells) (stepped s) (f .2) (u .cells))
-            (below-both (runAccessesE S sc (m .st) e) (access sc x (numberOf (m .val)) ∷ []) (run-expr-below e sc (d .cells) (m .st) (f .3) (v .cells))
+            (below-both (runAccessesE S sc (m .st) e) (access sc x (numberIn (m .val)) ∷ []) (run-expr-below e sc (d .cells) (m .st) (f .3) (v .cells))
             (rw (f .0 .found) (run-index i sc (d .cells) (stepped s) x (f .0 .is) (f .0 .found) (f .1) (f .2) (u .cells)), tt));
       }
   stmt-below (branch r g p q) sc f s d a =
@@ -146,9 +144,9 @@ module _ (S : ℕ → Bool) (given : Given) (σ : ℕ → ℕ → Sort) where
         read = below-both (readAccessesE given sc (d .cells) g) (arm (direct given g (d .cells)) (readAccesses given sc p) (readAccesses given sc q) d)
             (read-expr-below g sc (d .cells) s (f .2) (a .cells))
             (read-arm (direct given g (d .cells)) (stmt-below p sc (f .3) s d a .read) (stmt-below q sc (f .4) s d a .read));
-        run = below-both (runAccessesE S sc (stepped s) g) (arm (numberOf (m .val)) (runAccesses S sc p) (runAccesses S sc q) (m .st))
+        run = below-both (runAccessesE S sc (stepped s) g) (arm (numberIn (m .val)) (runAccesses S sc p) (runAccesses S sc q) (m .st))
             (run-expr-below g sc (d .cells) (stepped s) (f .2) (u .cells))
-            (run-arm (m .st) (numberOf (m .val)) (stmt-below p sc (f .3) (m .st) d v .run) (stmt-below q sc (f .4) (m .st) d v .run));
+            (run-arm (m .st) (numberIn (m .val)) (stmt-below p sc (f .3) (m .st) d v .run) (stmt-below q sc (f .4) (m .st) d v .run));
       }
     where
       read-arm : (n : ℕ) → AllBelow (readAccesses given sc p d) → AllBelow (readAccesses given sc q d) → AllBelow (arm n (readAccesses given sc p) (readAccesses given sc q) d)

@@ -1,6 +1,6 @@
 -- The words of a sound circuit of at most 3,000 gates are words: its wires, desks, numbers and sorts are small.
-use Prim.Native.Nat.{ℕ, zero, suc, _+_, _*_, _≤_, _<_}
-use mathlib.Core.Path.{_≡_, refl, sym, subst, ap, _∙_}
+use Prim.Native.Nat.{ℕ, _≤_, _<_}
+use mathlib.Core.Path.{_≡_}
 use mathlib.Core.Bool.{Bool, true, false, not, _&&_, _||_}
 use mathlib.Core.List.{List, [], _∷_, _++_}
 use lib.Dec.{T, eqb, ltb, ltb→lt, eqb→eq}
@@ -8,7 +8,7 @@ use lib.ListN.{length}
 use native.Mathlib.Omega.{arith}
 use Rattle.words.specs.Words.{AllWords}
 use Rattle.rules.specs.Rows.{Op, add, gt}
-use Rattle.rules.specs.Sorts.{Sort, arithmetic, boolean, bit, sortNumber, same, holds, sideAt}
+use Rattle.rules.specs.Sorts.{Sort, arithmetic, boolean, bit, sortNumber, same, fitsSort, sideAt}
 use Rattle.rules.specs.Gates.{Gate, both, mux, constant, convert, entry, output, gateNumber, gateWords, circuitWords, wires, isWire, isNext, clashes, keepsRules}
 use Rattle.rules.proofs.Formed.{and-left, and-right}
 use Rattle.rules.proofs.Making.{Extra, AllSound}
@@ -85,7 +85,7 @@ module _ (gs : List Gate) (few : length gs ≤ 3000) where
           ),
         ),
       )
-  gate-small σ (constant v m new) t x = (omega arith, (omega (arith, x), (sort-small m, (next-small new (and-right (holds m v) (isNext gs new) t), (omega arith, tt)))))
+  gate-small σ (constant v m new) t x = (omega arith, (omega (arith, x), (sort-small m, (next-small new (and-right (fitsSort m v) (isNext gs new) t), (omega arith, tt)))))
   gate-small σ (convert w m new) t x =
       let ways = isWire gs w arithmetic && same m boolean || isWire gs w boolean && same m arithmetic in (
         omega arith,

@@ -7,14 +7,14 @@ use native.Mathlib.Omega.{arith}
 use lib.Bits.{xor-zero-r}
 use Rattle.words.specs.Words.{words, bytesOf, over}
 use Rattle.rules.specs.Places.{accepted, fault, failingBelow, lowest, unless, andThen}
-use Rattle.rules.specs.Rows.{uint, kinds, word, kindAt, rowCount, tableFits, rowShaped, names, namesIn, places, usedOnce}
+use Rattle.rules.specs.Rows.{uint, kinds, word, kindAt, rowCount, tableFits, rowShaped, childOf, childrenIn, uses, usedOnce}
 use Rattle.rules.specs.Tree.{Stmt, declare, loop, then}
 use Rattle.rules.specs.Tree.{rowE, rowS, typeOf, exprOf, stmtOf, below, levels, byRows, exprAt, stmtAt, program}
 use Rattle.rules.specs.Scope.{lookup, after}
 use Rattle.rules.specs.Sites.{rowN, sitesE, sites, failing, check4}
 use Rattle.rules.specs.Names.{named, check5}
 use Rattle.rules.specs.Types.{typeE, differs, clashTo, typed, check6}
-use Rattle.rules.specs.Labels.{reads, stores, rulesOf, inputsOf, allRules, allInputs, has, fired, passes, secrets, public, check7}
+use Rattle.rules.specs.Labels.{whenRead, whenStored, rulesOf, inputsOf, allRules, allInputs, has, fired, passes, secrets, public, check7}
 use Rattle.rules.specs.Counts.{countTwo, count, counted, check8}
 use Rattle.rules.specs.Sorts.{sortNumbered, applied, arm}
 use Rattle.rules.specs.Gates.{Gate, circuitWords, gateKinds, gateOf, gateWord, gateAt, gateCount, gatesTo, sortMade, wired, wires}
@@ -28,7 +28,10 @@ use Rattle.rules.specs.Answers.{programOf, rowsOf, sitesOf, secretIn, ru
 use Rattle.rules.specs.Answers.{failing9, failing10, failing11, built, compile, compileAnswer, compileLeaves}
 use Rattle.rules.specs.Answers.{gatesOf, outCount, failing20, failing21, failing22, failing23, failing24, failing25, evaluate}
 use Rattle.rules.specs.Answers.{evaluateAnswer, leavesOne, leavesTwo, leavesOuts, readOuts, failingDirect, readDirectly, directAnswer, directLeaves}
-use Rattle.rules.specs.Cases.{compiles, Gives, Pairs, Differs, Holds, AllHold, unchanged, plus, xor, allChanged, compiledWith}
+use Rattle.rules.specs.Ascii.{ascii}
+use Rattle.rules.specs.Text.{isDigit, digitOf, fitsColumn, fitsTo, isLine, hexAt, lineCount, textWords, textFits, check12, digitFor, hexOf, lineOf}
+use Rattle.rules.specs.Answers.{failingText, failing12, failing13, readText, gateLines, printed}
+use Rattle.rules.specs.Cases.{compiles, prints, sumText, sumListing, openText, openListing, Gives, Pairs, DiffersBy, Holds, AllHold, unchanged, plus, xor, allChanged, compiledWith}
 use Rattle.rules.specs.Cases.{sum, written, shown, writtenNext, shownNext, array, idle, twice, greater, million, sumCircuit, greaterCircuit}
 use Rattle.rules.specs.Cases.{sumOf7And5, greaterOf7And5, greaterOf9And5, greaterOf7Or9, cases}
 use Rattle.rules.specs.Cases.{indexLate, guardLate, idleUnknown, idleSecret, condTrue, condInput, slips}
@@ -44,13 +47,13 @@ unfoldable pub checking : Unit {0}
 unfolding
     words bytesOf
     fault failingBelow
-    kinds word kindAt rowCount tableFits rowShaped names namesIn places usedOnce
+    kinds word kindAt rowCount tableFits rowShaped childOf childrenIn uses usedOnce
     rowE rowS typeOf exprOf stmtOf below levels byRows exprAt stmtAt program
     lookup after
     rowN sitesE sites failing check4
     named check5
     typeE differs clashTo typed check6
-    reads stores rulesOf inputsOf allRules allInputs has fired passes secrets public check7
+    whenRead whenStored rulesOf inputsOf allRules allInputs has fired passes secrets public check7
     countTwo count counted check8
     programOf rowsOf sitesOf secretIn failing1 failing2 failing3 failing4 failing5 failing6 failing7 failing8
 checking = tt
@@ -79,6 +82,15 @@ unfolding
     gatesOf outCount failing20 failing21 failing22 failing23 failing24 failing25 evaluate
     evaluateAnswer leavesOne leavesTwo leavesOuts readOuts failingDirect readDirectly directAnswer directLeaves
 computing = tt
+
+-- for the printing program
+unfoldable pub printing : Unit {0}
+unfolding
+    compiling
+    ascii
+    isDigit digitOf fitsColumn fitsTo isLine hexAt lineCount textWords textFits check12 digitFor hexOf lineOf
+    failingText failing12 failing13 readText gateLines printed
+printing = tt
 
 -- Sum, with inputs 7 and 5.
 sum-gives : Gives sumOf7And5
@@ -124,7 +136,7 @@ greater-partner (a ∷ b ∷ c ∷ d ∷ e ∷ []) t = rw (add-none c (t .words 
 greater-partner (a ∷ b ∷ c ∷ d ∷ e ∷ f ∷ more) t = absurd (omega (arith, t .long))
 
 -- so partner tapes differ by + 2 in word 0 and by xor 14 in word 1, whatever the tape
-greater-differs : Differs greaterOf7Or9
+greater-differs : DiffersBy greaterOf7Or9
 unfolding compiling greaterOf7Or9 greater greaterCircuit
 greater-differs = record { compiled = refl; partnered = greater-partner }
 
@@ -210,12 +222,23 @@ million-holds : Holds (compiles million (compiledWith 0 0 1000000))
 unfolding compileAnswer
 million-holds = rw (million-compile, million-gates, million-wires, million-steps)
 
+-- the texts of sum
+sum-prints : Holds (prints sumText sumListing)
+unfolding printing sumText sumListing
+sum-prints = refl
+
+open-prints : Holds (prints openText openListing)
+unfolding printing openText openListing
+open-prints = refl
+
 -- Every case marked P holds, in the list's order.
 pub all-hold : AllHold cases
 unfolding compiling cases sum written shown writtenNext shownNext array idle twice greater
 all-hold =
     refl  -- sum, compiled
     and sum-gives
+    and sum-prints
+    and open-prints
     and refl  -- no words
     and refl  -- index the loop's name, 0 to 3: a write
     and refl  -- and a read

@@ -1,19 +1,17 @@
 -- Cells are set, and names come into scope and leave it: the run and the direct reading go on agreeing.
-use Prim.Native.Nat.{ℕ, zero, suc, _+_, _*_, _≤_, _<_}
+use Prim.Native.Nat.{ℕ, _+_, _*_, _≤_, _<_}
 use mathlib.Core.Path.{_≡_, refl, sym, subst, ap, _∙_}
-use mathlib.Core.Logic.{_≢_}
 use mathlib.Core.Bool.{Bool, true, false, cond}
 use mathlib.Core.Option.{Option, none, some}
-use mathlib.Core.List.{List, [], _∷_}
-use lib.Dec.{T, eqb}
-use lib.ListN.{length, getD, set, length-set}
+use mathlib.Core.List.{List, _∷_}
+use lib.Dec.{eqb}
+use lib.ListN.{getD, set, length-set}
 use lib.Seq.{getD-set-same, getD-set-other}
 use borrow.Author.Tests.{eqb-true, eqb-false, ne-eqb}
 use native.Mathlib.Omega.{arith}
 use Rattle.rules.specs.Rows.{Ty, uint}
-use Rattle.rules.specs.Scope.{Known, declared, looped, Entry, Scope, lookup, typeK}
+use Rattle.rules.specs.Scope.{Known, Scope, lookup, typeK}
 use Rattle.rules.specs.Counts.{countK}
-use Rattle.rules.specs.Sorts.{Sort}
 use Rattle.rules.specs.Run.{Val, known, held, State, put, stepped}
 use Rattle.rules.specs.Plain.{Given}
 use Rattle.rules.proofs.Making.{Worth}

@@ -1,25 +1,25 @@
 -- A program whose every site passes checks 5 to 8, with the labels of a closed set, is fine in every part.
-use Prim.Native.Nat.{ℕ, zero, suc, _≤_, _<_}
-use mathlib.Core.Path.{_≡_, refl, sym, subst, ap, _∙_}
-use mathlib.Core.Bool.{Bool, true, false, not, _&&_}
+use Prim.Native.Nat.{ℕ, zero, suc, _≤_}
+use mathlib.Core.Path.{_≡_, refl, sym}
+use mathlib.Core.Bool.{Bool, not, _&&_}
 use mathlib.Core.Option.{Option, none, some}
-use mathlib.Core.List.{List, [], _∷_, _++_}
-use lib.Dec.{T, T-not, eqb, ltb, ltb→lt}
+use mathlib.Core.List.{List, _++_}
+use lib.Dec.{T, T-not, ltb, ltb→lt}
 use native.Mathlib.Omega.{arith}
 use Rattle.rules.specs.Rows.{Ty, uint, bool}
 use Rattle.rules.specs.Tree.{Expr, number, truth, name, two, choose, element, input, rowE}
 use Rattle.rules.specs.Tree.{Stmt, declare, assign, loop, write, branch, out, then}
-use Rattle.rules.specs.Scope.{Known, declared, looped, Scope, lookup, elements, typeK, typeFound, lengthK, lengthFound, inLoop, after}
-use Rattle.rules.specs.Sites.{Node, ofE, ofS, Site, site, sitesE, sites}
+use Rattle.rules.specs.Scope.{Known, declared, looped, Scope, lookup, elements, typeFound, lengthK, lengthFound, inLoop, after}
+use Rattle.rules.specs.Sites.{Site, sitesE, sites}
 use Rattle.rules.specs.Names.{isFound, isDeclared, named, check5}
-use Rattle.rules.specs.Types.{typeE, isA, isPlain, clashTo, typed, check6}
-use Rattle.rules.specs.Labels.{Rule, reads, stores, rulesOf, inputsOf, Has, Keeps, public, check7}
-use Rattle.rules.specs.Counts.{countK, count, counted, check8}
-use Rattle.rules.specs.Sorts.{Sort, keptAt}
+use Rattle.rules.specs.Types.{typeE, isA, isPlain, typed, check6}
+use Rattle.rules.specs.Labels.{whenRead, whenStored, rulesOf, inputsOf, Has, Keeps, public, check7}
+use Rattle.rules.specs.Counts.{count, counted, check8}
+use Rattle.rules.specs.Sorts.{Sort}
 use Rattle.rules.proofs.Sites.{Each, each-left, each-right}
-use Rattle.rules.proofs.Formed.{and-left, and-right, InputRow, FormedE, FormedS}
+use Rattle.rules.proofs.Formed.{and-left, and-right, FormedE, FormedS}
 use Rattle.rules.proofs.InputSorts.{AtInputSort}
-use Rattle.rules.proofs.Fine.{labelK, ReadsName, StoresName, Indexes, TwoSides, Chooses, ReadsInput, Free, FineE, FineS}
+use Rattle.rules.proofs.Fine.{ReadsName, StoresName, Indexes, FineE, FineS}
 
 -- what the checks say of a site
 pub record Passes (t : List ℕ) (S : ℕ → Bool) (σ : ℕ → ℕ → Sort) (s : Site) : Type 0 where
@@ -47,22 +47,22 @@ elements-le (suc n) h = h
 
 module _ (S : ℕ → Bool) where
   -- a name that is read
-  reads-name : (sc : Scope) (r x : ℕ) → T (isFound (lookup sc x)) → Keeps S (reads (lookup sc x) r) → ReadsName S sc r x
-  unfolding reads
+  reads-name : (sc : Scope) (r x : ℕ) → T (isFound (lookup sc x)) → Keeps S (whenRead (lookup sc x) r) → ReadsName S sc r x
+  unfolding whenRead
   reads-name sc r x = go (lookup sc x) refl
     where
-      go : (o : Option Known) → lookup sc x ≡ o → T (isFound o) → Keeps S (reads o r) → ReadsName S sc r x
+      go : (o : Option Known) → lookup sc x ≡ o → T (isFound o) → Keeps S (whenRead o r) → ReadsName S sc r x
       go none e h k = absurd h
       go (some (declared d t n)) e h k = record { is = declared d t n; found = e; label = k .0 }
       go (some (looped d l)) e h k = record { is = looped d l; found = e; label = λ t. absurd t }
 
   -- a name that is stored to
-  stores-name : (sc : Scope) (x : ℕ) (v : Expr) → T (isDeclared (lookup sc x)) → Keeps S (stores (rowE v) (lookup sc x))
+  stores-name : (sc : Scope) (x : ℕ) (v : Expr) → T (isDeclared (lookup sc x)) → Keeps S (whenStored (rowE v) (lookup sc x))
       → typeE sc v ≡ typeFound (lookup sc x) → StoresName S sc x v
-  unfolding stores
+  unfolding whenStored
   stores-name sc x v = go (lookup sc x) refl
     where
-      go : (o : Option Known) → lookup sc x ≡ o → T (isDeclared o) → Keeps S (stores (rowE v) o) → typeE sc v ≡ typeFound o → StoresName S sc x v
+      go : (o : Option Known) → lookup sc x ≡ o → T (isDeclared o) → Keeps S (whenStored (rowE v) o) → typeE sc v ≡ typeFound o → StoresName S sc x v
       go none e h k y = absurd h
       go (some (declared d t n)) e h k y = record { is = declared d t n; found = e; uncounted = omega arith; label = k .0; type = y }
       go (some (looped d l)) e h k y = absurd h

@@ -8,14 +8,14 @@ use mathlib.Core.Option.{Option, none, some}
 use mathlib.Core.List.{List, [], _∷_, _++_, append-nil}
 use lib.Dec.{T}
 use lib.ListN.{length, take, length-append, List·getD-append}
-use lib.Seq.{getD-append-add, take-at}
+use lib.Seq.{getD-append-add}
 use borrow.Author.Tests.{eq-eqb, le-leb}
 use Rattle.words.specs.Words.{words, bytesOf, over, AllWords}
 use Rattle.words.proofs.Words.{bytes-length, words-read-back, over-front}
 use Rattle.rules.specs.Places.{fault, failingBelow}
 use Rattle.rules.specs.Rows.{add, gt}
-use Rattle.rules.specs.Sorts.{Sort, arithmetic, boolean, bit, sortNumbered, holds}
-use Rattle.rules.specs.Gates.{Gate, Wires, sortMade, both, mux, constant, convert, entry, output, gateWords, circuitWords, gateKinds, gateOf, gateWord, gateAt, gateCount, gatesTo, added, makes, wires, wired, keeps, keepsRules, check21, circuitFits, AllKeep, entryTest}
+use Rattle.rules.specs.Sorts.{Sort, arithmetic, boolean, bit, sortNumbered, fitsSort}
+use Rattle.rules.specs.Gates.{Gate, Wires, sortMade, both, mux, constant, convert, entry, output, gateWords, circuitWords, gateKinds, gateOf, gateWord, gateAt, gateCount, gatesTo, added, makes, wires, wired, gateKeeps, keepsRules, check21, circuitFits, AllKeep, entryTest}
 use Rattle.rules.specs.Plain.{Given, Reading, plain, noted}
 use Rattle.rules.specs.Shares.{Desks, shared, dealt, FitBools}
 use Rattle.rules.specs.Answers.{gatesOf, outMade, outCount, failing20, failing21}
@@ -88,7 +88,7 @@ gates-front c d (suc n) h = ap₂ added (gate-front c d n h) (gates-front c d n 
 -- so is check 21 of gate i
 pub check21-front : (c d : List ℕ) (i : ℕ) → 5 * suc i ≤ length c → check21 (c ++ d) i ≡ check21 c i
 unfolding check21
-check21-front c d i h = ap₂ keeps (gates-front c d i (omega arith)) (gate-front c d i h)
+check21-front c d i h = ap₂ gateKeeps (gates-front c d i (omega arith)) (gate-front c d i h)
 
 -- the newest gate of a circuit is its last
 last-gate : (g : Gate) (gs : List Gate) → gateAt (circuitWords (g ∷ gs)) (length gs) ≡ some g
@@ -121,7 +121,7 @@ earlier-failing ok front g gs =
 -- the newest gate of a circuit is checked after the others
 last-check : (g : Gate) (gs : List Gate) → check21 (circuitWords (g ∷ gs)) (length gs) ≡ keepsRules gs g
 unfolding check21
-last-check g gs = ap₂ keeps (earlier-gates g gs ∙ gates-read-back gs) (last-gate g gs)
+last-check g gs = ap₂ gateKeeps (earlier-gates g gs ∙ gates-read-back gs) (last-gate g gs)
 
 -- a circuit that keeps the rules is not refused with 21
 pub never-21 : (gs : List Gate) → AllKeep gs → failingBelow (check21 (circuitWords gs)) (length gs) ≡ []
@@ -155,7 +155,7 @@ never-20 gs h n =
 
 -- one that keeps the rules too is refused neither with 20 nor with 21
 pub never-20-21 : (gs : List Gate) → AllKeep gs → AllWords (circuitWords gs) → length gs ≤ 3000
-    → (failing20 (bytesOf (circuitWords gs)) ≡ []) × (failing21 (bytesOf (circuitWords gs)) ≡ [])
+    → (failing20 (bytesOf (circuitWords gs)) ≡ []) × (failing21 (words (bytesOf (circuitWords gs))) ≡ [])
 unfolding failing21
 never-20-21 gs k h n = (never-20 gs h n, rw (words-read-back (circuitWords gs) h, circuit-gates gs) (never-21 gs k))
 
@@ -166,7 +166,7 @@ gates-of-lent gs b h = rw (circuit-front gs b) (gates-of-bytes gs h)
 
 -- and is refused neither with 20 nor with 21
 pub never-20-21-lent : (gs : List Gate) (b : List ℕ) → AllKeep gs → AllWords (circuitWords gs) → length gs ≤ 3000
-    → (failing20 (take (20 * length gs) (over (circuitWords gs) b)) ≡ []) × (failing21 (take (20 * length gs) (over (circuitWords gs) b)) ≡ [])
+    → (failing20 (take (20 * length gs) (over (circuitWords gs) b)) ≡ []) × (failing21 (words (take (20 * length gs) (over (circuitWords gs) b))) ≡ [])
 never-20-21-lent gs b k h n = rw (circuit-front gs b) (never-20-21 gs k h n)
 
 -- a gate that makes no wire adds one output to the plain reading, any other none
@@ -232,6 +232,6 @@ entries-back ok (g ∷ gs) =
     )
 
 -- the bools of fit inputs, as such a test
-pub fit-bools : (given : Given) (gs : List Gate) → FitBools given gs ↔ AllEntries (λ d n m. holds m (given d n)) gs
+pub fit-bools : (given : Given) (gs : List Gate) → FitBools given gs ↔ AllEntries (λ d n m. fitsSort m (given d n)) gs
 fit-bools given [] = (λ h. h, λ h. h)
 fit-bools given (g ∷ gs) = (λ h. (h .0, fit-bools given gs .0 (h .1)), λ h. (h .0, fit-bools given gs .1 (h .1)))

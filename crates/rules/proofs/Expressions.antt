@@ -1,23 +1,23 @@
 -- The plain reading of the gates that an expression makes is its direct reading, and the gates keep the rules.
-use Prim.Native.Nat.{ℕ, zero, suc, _+_, _*_, _≤_, _<_, min, max}
-use mathlib.Core.Path.{_≡_, refl, sym, subst, ap, _∙_}
-use mathlib.Core.Bool.{Bool, true, false}
+use Prim.Native.Nat.{ℕ, zero, suc, _+_, _*_, _≤_, _<_, max}
+use mathlib.Core.Path.{_≡_, refl, sym, subst}
+use mathlib.Core.Bool.{Bool}
 use mathlib.Core.Option.{Option, none, some}
-use mathlib.Core.List.{List, [], _∷_}
-use lib.Dec.{T}
+use mathlib.Core.List.{List}
 use lib.ListN.{length, getD}
 use native.Mathlib.Omega.{arith}
-use Rattle.rules.specs.Rows.{Ty, uint, bool, Op, add, gt}
+use Rattle.rules.specs.Rows.{uint, add, gt}
 use Rattle.rules.specs.Tree.{Expr, number, truth, name, two, choose, element, input, rowE}
-use Rattle.rules.specs.Scope.{Known, declared, looped, Scope, lookup, typeK, typeFound, lengthK}
-use Rattle.rules.specs.Types.{typeE, resultType}
+use Rattle.rules.specs.Scope.{Known, declared, looped, Scope, lookup, typeK, lengthK}
+use Rattle.rules.specs.Types.{typeE}
 use Rattle.rules.specs.Counts.{countK, countFound, countTwo, count}
 use Rattle.rules.specs.Sorts.{Sort, keptAt, applied, arm}
 use Rattle.rules.specs.Gates.{entry}
-use Rattle.rules.specs.Run.{Val, known, held, State, Made, numberOf, make, cell, guarded, runE}
+use Rattle.rules.specs.Run.{Val, known, held, State, numberIn, make, cell, guarded, runE}
 use Rattle.rules.specs.Plain.{Given}
 use Rattle.rules.specs.Direct.{direct}
-use Rattle.rules.proofs.Making.{isHeld, topOf, Worth, More, Gives, more-refl, worth-more, after-gives, wired-gives, entry-wired, number-worth, sided-worthy, guarded-worthy, type-kept}
+use Rattle.rules.proofs.Making.{isHeld, Worth, More, Gives, more-refl, worth-more, after-gives, wired-gives, entry-wired, number-worth, type-kept}
+use Rattle.rules.proofs.Acts.{sided-worthy, guarded-worthy}
 use Rattle.rules.proofs.Fine.{sizeK, labelK, FineE}
 
 -- a held value has sort m: that of its declaration
@@ -119,8 +119,8 @@ module _ (S : ℕ → Bool) (given : Given) (σ : ℕ → ℕ → Sort) (sc : Sc
       let pi = expr-agrees i (f .2) s g in
       let u = agrees-more s (p .st) (pi .more) g in
       let n = number-worth given σ (p .st) (typeE sc i) (p .val) (direct given i c) (λ t. f .1 .public (pi .label t)) (pi .worth) in
-      let k = u .cells x (f .0 .is) (f .0 .found) (numberOf (p .val))
-      (below-size (f .0 .is) (numberOf (p .val)) (rw n (index-below s g x (f .0 .is) (f .0 .found) i (f .1 .below)))) in
+      let k = u .cells x (f .0 .is) (f .0 .found) (numberIn (p .val))
+      (below-size (f .0 .is) (numberIn (p .val)) (rw n (index-below s g x (f .0 .is) (f .0 .found) i (f .1 .below)))) in
       record {
         more = pi .more;
         worth = rw (f .0 .found, ← n) (k .worth);

@@ -1,9 +1,9 @@
 -- What checks 2 and 5 to 8 and the labels say of a tree in its scope, part by part. S are the secret rows, σ the sorts of the
 -- inputs.
-use Prim.Native.Nat.{ℕ, zero, suc, _≤_, _<_}
+use Prim.Native.Nat.{ℕ, _≤_, _<_}
 use mathlib.Core.Path.{_≡_}
-use mathlib.Core.Bool.{Bool, true, false, _||_}
-use mathlib.Core.Option.{Option, none, some}
+use mathlib.Core.Bool.{Bool, false, _||_}
+use mathlib.Core.Option.{none, some}
 use lib.Dec.{T, eqb}
 use Rattle.rules.specs.Rows.{Ty, uint, bool}
 use Rattle.rules.specs.Tree.{Expr, number, truth, name, two, choose, element, input, rowE}

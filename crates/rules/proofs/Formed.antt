@@ -1,14 +1,14 @@
 -- What check 2 says of the tree of a table: its rows lie below the number of rows, and its numbers in their ranges.
-use Prim.Native.Nat.{ℕ, zero, suc, _+_, _-_, _/_, _%_, _≤_, _<_}
-use mathlib.Core.Path.{_≡_, refl, sym, subst, ap, _∙_}
+use Prim.Native.Nat.{ℕ, zero, suc, _-_, _≤_, _<_}
+use mathlib.Core.Path.{_≡_, refl, subst}
 use mathlib.Core.Bool.{Bool, true, false, not, _&&_, _||_}
-use mathlib.Core.List.{List, [], _∷_}
+use mathlib.Core.List.{List}
 use lib.Dec.{T, eqb, ltb, leb, leb→le, ltb→lt}
 use lib.ListN.{getD}
 use borrow.Author.Tests.{ltb-true}
 use native.Mathlib.Omega.{arith}
-use Rattle.rules.specs.Rows.{Ty, uint, bool, Kind, unknown, isE, isS, ofNumber, ofTruth, ofName, ofTwo, ofChoose, ofElement, ofInput}
-use Rattle.rules.specs.Rows.{ofDeclare, ofAssign, ofLoop, ofWrite, ofBranch, ofOut, ofThen, kinds, word, kindAt, rowCount, Field, shapeOf, fits, shaped, rowShaped, isExpr, isStmt}
+use Rattle.rules.specs.Rows.{Ty, Kind, unknown, isE, isS, ofNumber, ofTruth, ofName, ofTwo, ofChoose, ofElement, ofInput}
+use Rattle.rules.specs.Rows.{ofDeclare, ofAssign, ofLoop, ofWrite, ofBranch, ofOut, ofThen, kinds, word, kindAt, rowCount, shapeOf, fits, shaped, rowShaped, isExpr, isStmt}
 use Rattle.rules.specs.Tree.{Expr, number, truth, name, two, choose, element, input, Stmt, declare, assign, loop, write, branch, out, then}
 use Rattle.rules.specs.Tree.{typeOf, exprOf, stmtOf, below, levels, byRows, exprAt, stmtAt, program}
 

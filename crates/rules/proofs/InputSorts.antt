@@ -1,7 +1,7 @@
 -- Check 6 gives every input one type: so each is read at one sort, and no two gates that read it differ.
-use Prim.Native.Nat.{ℕ, zero, suc, _≤_, _<_}
+use Prim.Native.Nat.{ℕ, zero, suc, _<_}
 use mathlib.Core.Path.{_≡_, refl, sym, subst, ap, _∙_}
-use mathlib.Core.Logic.{_⊎_, inl, inr, ⊎-elim}
+use mathlib.Core.Logic.{_⊎_, inl, inr}
 use mathlib.Core.Bool.{Bool, true, false, not, cond, _&&_, _||_}
 use mathlib.Core.Option.{Option, none, some}
 use mathlib.Core.List.{List, [], _∷_}
@@ -9,8 +9,8 @@ use lib.Dec.{T, eqb, eqb-refl}
 use borrow.Author.Tests.{eqb-true, eqb-false}
 use native.Mathlib.Decide.{decLe}
 use native.Mathlib.Omega.{arith}
-use Rattle.rules.specs.Rows.{Ty, uint, word}
-use Rattle.rules.specs.Tree.{Expr, number, truth, name, two, choose, element, input, Stmt, typeOf}
+use Rattle.rules.specs.Rows.{Ty, word}
+use Rattle.rules.specs.Tree.{number, truth, name, two, choose, element, input, typeOf}
 use Rattle.rules.specs.Sites.{Node, ofE, ofS, Site}
 use Rattle.rules.specs.Types.{differs, clashTo, typed, check6}
 use Rattle.rules.specs.Sorts.{Sort, arithmetic, keptAt}

@@ -9,7 +9,7 @@ use Rattle.rules.specs.Tree.{number, truth, name, two, choose, element, 
 use Rattle.rules.specs.Tree.{declare, assign, loop, write, branch, out, then}
 use Rattle.rules.specs.Scope.{Known, declared, looped, Scope, lookup}
 use Rattle.rules.specs.Sites.{Node, ofE, ofS, rowN, Site}
-use Rattle.rules.specs.Labels.{Rule, reads, stores, rulesOf, inputsOf, allRules, allInputs, Has, Keeps, Closed, Secret, has, secrets}
+use Rattle.rules.specs.Labels.{Rule, whenRead, whenStored, rulesOf, inputsOf, allRules, allInputs, Has, Keeps, Closed, Secret, has, secrets}
 use Rattle.rules.proofs.Sites.{Each, each-map}
 use Rattle.rules.proofs.Least.{passes-closed, passes-least}
 pub use Rattle.rules.proofs.Least.{has-left, has-right, has-both}
@@ -71,15 +71,15 @@ module _ (n : ℕ) where
   low r = ltb r n
 
   -- the rule of a read leads to the reading row
-  reads-low : (o : Option Known) (r : ℕ) → r < n → Keeps low (reads o r)
-  unfolding reads
+  reads-low : (o : Option Known) (r : ℕ) → r < n → Keeps low (whenRead o r)
+  unfolding whenRead
   reads-low none r h = tt
   reads-low (some (declared d t k)) r h = (λ q. lt→ltb r n h, tt)
   reads-low (some (looped d l)) r h = tt
 
   -- the rule of a store leads to the declaration
-  stores-low : (v : ℕ) (o : Option Known) → DeclaredBelow n o → Keeps low (stores v o)
-  unfolding stores
+  stores-low : (v : ℕ) (o : Option Known) → DeclaredBelow n o → Keeps low (whenStored v o)
+  unfolding whenStored
   stores-low v none h = tt
   stores-low v (some (declared d t k)) h = (λ q. lt→ltb d n h, tt)
   stores-low v (some (looped d l)) h = tt

@@ -1,9 +1,8 @@
 -- Ladders of checks, one after another: which rung refuses, and what holds in every case.
 use Prim.Native.Nat.{ℕ, zero, suc}
-use mathlib.Core.Path.{_≡_, refl, sym, subst, ap, _∙_}
-use mathlib.Core.Logic.{_⊎_, inl, inr, ⊎-elim}
+use mathlib.Core.Path.{_≡_, refl, _∙_}
 use mathlib.Core.List.{List, [], _∷_, _++_}
-use Rattle.rules.specs.Places.{Verdict, refused, accepted, lowest, unless}
+use Rattle.rules.specs.Places.{Verdict, refused, lowest, unless}
 use Rattle.rules.specs.Refusals.{Lowest, Clear}
 use Rattle.rules.proofs.Places.{lowest-is, lowest-of-none, unless-refused, unless-passed}
 

@@ -10,6 +10,7 @@ pub mod Sited
 pub mod Fine
 pub mod Checked
 pub mod Making
+pub mod Acts
 pub mod Expressions
 pub mod Cells
 pub mod Statements
@@ -21,6 +22,9 @@ pub mod Texts
 pub mod Xor
 pub mod Listed
 pub mod Shares
+pub mod Decoded
 pub mod Memories
+pub mod AsEvaluate
 pub mod Loops
 pub mod Cases
+pub mod Theorems

@@ -1,20 +1,20 @@
--- Gates are made: what a value is worth, what stays as gates are added, and the gates that bringing, operators and conds make.
--- The gates keep the rules of check 21 if those before them do.
-use Prim.Native.Nat.{ℕ, zero, suc, _+_, _≤_, _<_}
+-- Gates are made: what a value is worth, what stays as gates are added, and what each kind of gate gives. A gate keeps the rules of
+-- check 21 if those before it do.
+use Prim.Native.Nat.{ℕ, suc, _≤_, _<_}
 use mathlib.Core.Path.{_≡_, refl, sym, subst, ap, _∙_}
 use mathlib.Core.Logic.{_⊎_, inl, inr}
 use mathlib.Core.Bool.{Bool, true, false, not, cond, _&&_, _||_}
-use mathlib.Core.Option.{Option, none, some}
+use mathlib.Core.Option.{some}
 use mathlib.Core.List.{List, [], _∷_}
-use lib.Dec.{T, eqb, ltb, leb, eqb-refl, lt→ltb, le→leb, eqb→eq}
+use lib.Dec.{T, eqb, ltb, eqb-refl, lt→ltb, le→leb}
 use borrow.Author.Tests.{ne-eqb, eq-eqb, eqb-true}
 use native.Mathlib.Omega.{arith}
 use Rattle.rules.specs.Rows.{Ty, uint, bool, Op, add, gt}
 use Rattle.rules.specs.Types.{resultType}
-use Rattle.rules.specs.Sorts.{Sort, arithmetic, boolean, bit, same, typeAt, holds, keptAt, muxedAt, sideAt, resultAt, applied, arm}
+use Rattle.rules.specs.Sorts.{Sort, arithmetic, boolean, bit, same, typeAt, fitsSort, keptAt, muxedAt, sideAt, resultAt, applied, arm}
 use Rattle.rules.specs.Gates.{Gate, both, mux, constant, convert, entry, output, makes, Wires, wires, wired, sortMade, isWire, isNext, otherSort, clashes, keepsRules, AllKeep}
-use Rattle.rules.specs.Run.{Val, known, held, State, Made, Act, wireOf, numberOf, typeV, make, converted, bringVal, bring, sided, kept, muxedTo, muxed, guarded}
-use Rattle.rules.specs.Plain.{Given, valueOf, but, Reading, noted, plain}
+use Rattle.rules.specs.Run.{Val, known, held, State, Made, wireIn, numberIn, typeV, make, converted, bringVal, bring}
+use Rattle.rules.specs.Plain.{Given, valueOf, Reading, noted, plain}
 
 -- Tests that hold together.
 pub and-both : (a b : Bool) → T a → T b → T (a && b)
@@ -105,7 +105,7 @@ no-clash σ (g ∷ gs) h d n m e = neither (otherSort d n m g) (clashes gs d n m
 true≢false : true ≡ false → ⊥
 true≢false e = let z : _≡_ {A = ℕ} 0 1 = cc in omega arith
 
-uint≢bool : uint ≡ bool → ⊥
+pub uint≢bool : uint ≡ bool → ⊥
 uint≢bool e = let z : _≡_ {A = ℕ} 0 1 = cc in omega arith
 
 -- What a value is worth, once its wires are read; and the type that it has.
@@ -136,10 +136,10 @@ pub record Gives (given : Given) (σ : ℕ → ℕ → Sort) (h : Bool) (s : Sta
 -- the same of a value that is held at sort o
 pub record Wired (given : Given) (σ : ℕ → ℕ → Sort) (s : State) (o : Sort) (m : Made) (v : ℕ) : Type 0 where
   pub more : More given σ s (m .st)
-  pub on : wireOf (m .val) < m .st .wires
-  pub worth : plain given (m .st .gates) .value (wireOf (m .val)) ≡ v
-  pub sorted : wires (m .st .gates) .sort (wireOf (m .val)) ≡ o
-  pub wire : m .val ≡ held (wireOf (m .val)) o
+  pub on : wireIn (m .val) < m .st .wires
+  pub worth : plain given (m .st .gates) .value (wireIn (m .val)) ≡ v
+  pub sorted : wires (m .st .gates) .sort (wireIn (m .val)) ≡ o
+  pub wire : m .val ≡ held (wireIn (m .val)) o
 
 module _ (given : Given) (σ : ℕ → ℕ → Sort) where
   pub more-refl : (s : State) → More given σ s s
@@ -221,7 +221,7 @@ module _ (given : Given) (σ : ℕ → ℕ → Sort) where
   a-wire s w m g h e = and-both (ltb w (wires (s .gates) .count)) (same (wires (s .gates) .sort w) m)
       (rw (g .counted) (lt→ltb w (s .wires) h)) (rw e (same-refl m))
 
-  holds-top : (o : Sort) (n : ℕ) → n ≤ topOf (typeAt o) → T (holds o n)
+  holds-top : (o : Sort) (n : ℕ) → n ≤ topOf (typeAt o) → T (fitsSort o n)
   holds-top arithmetic n h = tt
   holds-top boolean n h = tt
   holds-top bit n h = le→leb n 1 h
@@ -233,7 +233,7 @@ module _ (given : Given) (σ : ℕ → ℕ → Sort) where
   pub constant-wired : (s : State) (o : Sort) (n : ℕ) → n ≤ topOf (typeAt o) → Wired given σ s o (make (constant n o) o s) n
   unfolding valueOf sortMade keepsRules
   constant-wired s o n h = made-wired s (constant n o) o n refl refl refl
-      (λ g. (and-both (holds o n) (isNext (s .gates) (s .wires)) (holds-top o n h) (next s g), word-top (typeAt o) n h))
+      (λ g. (and-both (fitsSort o n) (isNext (s .gates) (s .wires)) (holds-top o n h) (next s g), word-top (typeAt o) n h))
 
   pub entry-wired : (s : State) (d n : ℕ) (t : Ty) → T (eqb d 1 || eqb d 2) → n < 64 → keptAt t ≡ σ d n
       → Wired given σ s (keptAt t) (make (entry d n (keptAt t)) (keptAt t) s) (given d n)
@@ -300,7 +300,7 @@ module _ (given : Given) (σ : ℕ → ℕ → Sort) where
   bring-wired h o s m v g = after-wired s (m .st) o (bringVal o (m .val) (m .st)) v (g .more) (bringVal-wired o (m .val) (m .st) v (g .worth))
 
   -- a value that is not held is its number
-  pub number-worth : (s : State) (t : Ty) (x : Val) (v : ℕ) → (T (isHeld x) → ⊥) → Worth given s t x v → numberOf x ≡ v
+  pub number-worth : (s : State) (t : Ty) (x : Val) (v : ℕ) → (T (isHeld x) → ⊥) → Worth given s t x v → numberIn x ≡ v
   number-worth s t (known y n) v h w = w .0
   number-worth s t (held k o) v h w = absurd (h tt)
 
@@ -308,11 +308,11 @@ module _ (given : Given) (σ : ℕ → ℕ → Sort) where
   type-worth s t (known y n) v w = w .1
   type-worth s t (held k o) v w = w .3
 
-  type-side : (o : Op) → typeAt (sideAt o) ≡ uint
+  pub type-side : (o : Op) → typeAt (sideAt o) ≡ uint
   type-side add = refl
   type-side gt = refl
 
-  type-result : (o : Op) → typeAt (resultAt o) ≡ resultType o
+  pub type-result : (o : Op) → typeAt (resultAt o) ≡ resultType o
   type-result add = refl
   type-result gt = refl
 
@@ -320,7 +320,7 @@ module _ (given : Given) (σ : ℕ → ℕ → Sort) where
   type-kept uint = refl
   type-kept bool = refl
 
-  type-muxed : (t : Ty) → typeAt (muxedAt t) ≡ t
+  pub type-muxed : (t : Ty) → typeAt (muxedAt t) ≡ t
   type-muxed uint = refl
   type-muxed bool = refl
 
@@ -328,13 +328,13 @@ module _ (given : Given) (σ : ℕ → ℕ → Sort) where
   bool-top true = omega arith
   bool-top false = omega arith
 
-  applied-top : (o : Op) (v w : ℕ) → applied o v w ≤ topOf (resultType o)
+  pub applied-top : (o : Op) (v w : ℕ) → applied o v w ≤ topOf (resultType o)
   unfolding applied
   applied-top add v w = omega arith
   applied-top gt v w = bool-top (ltb w v)
 
   -- the gate of an operator, and of a mux
-  both-wired : (o : Op) (s : State) (i j v w : ℕ) → i < s .wires → plain given (s .gates) .value i ≡ v → wires (s .gates) .sort i ≡ sideAt o
+  pub both-wired : (o : Op) (s : State) (i j v w : ℕ) → i < s .wires → plain given (s .gates) .value i ≡ v → wires (s .gates) .sort i ≡ sideAt o
       → j < s .wires → plain given (s .gates) .value j ≡ w → wires (s .gates) .sort j ≡ sideAt o
       → Wired given σ s (resultAt o) (make (both o i j) (resultAt o) s) (applied o v w)
   unfolding valueOf sortMade keepsRules
@@ -344,7 +344,7 @@ module _ (given : Given) (σ : ℕ → ℕ → Sort) where
     tt,
   ))
 
-  mux-wired : (t : Ty) (s : State) (k i j c v w : ℕ) → k < s .wires → plain given (s .gates) .value k ≡ c → wires (s .gates) .sort k ≡ bit
+  pub mux-wired : (t : Ty) (s : State) (k i j c v w : ℕ) → k < s .wires → plain given (s .gates) .value k ≡ c → wires (s .gates) .sort k ≡ bit
       → i < s .wires → plain given (s .gates) .value i ≡ v → wires (s .gates) .sort i ≡ muxedAt t
       → j < s .wires → plain given (s .gates) .value j ≡ w → wires (s .gates) .sort j ≡ muxedAt t
       → Wired given σ s (muxedAt t) (make (mux k i j) (muxedAt t) s) (arm c v w)
@@ -365,96 +365,3 @@ module _ (given : Given) (σ : ℕ → ℕ → Sort) where
       two-arms bool g si sj =
           or-right (isWire (s .gates) i boolean && isWire (s .gates) j boolean) (isWire (s .gates) i bit && isWire (s .gates) j bit)
           (and-both (isWire (s .gates) i bit) (isWire (s .gates) j bit) (a-wire s i bit g hi si) (a-wire s j bit g hj sj))
-
--- What is true of a state and stays true as gates are added; and acts that give v in such states.
-module _ (given : Given) (σ : ℕ → ℕ → Sort) (R : State → Type 0) (stays : (s u : State) → More given σ s u → R s → R u) where
-  abbrev Worthy : Bool → Ty → Act → ℕ → Type 0
-  Worthy h t f v = (s : State) → R s → Gives given σ h s t (f s) v
-
-  -- an act of type t, brought to a sort of that type
-  brought : (h : Bool) (t : Ty) (o : Sort) (f : Act) (v : ℕ) → typeAt o ≡ t → Worthy h t f v → (s : State) → R s → Wired given σ s o (bring o (f s)) v
-  brought h t o f v e ok s r = bring-wired given σ h o s (f s) v (subst (λ (y : Ty). Gives given σ h s y (f s) v) (sym e) (ok s r))
-
-  -- a wired value gives, at its type
-  wired-as : (s : State) (o : Sort) (t : Ty) (m : Made) (v : ℕ) → typeAt o ≡ t → Wired given σ s o m v → Gives given σ true s t m v
-  wired-as s o t m v e w = subst (λ (y : Ty). Gives given σ true s y m v) e (wired-gives given σ s o m v w)
-
-  pub sided-worthy : (o : Op) (h a b : Bool) (f g : Act) (v w : ℕ) → (T a → T h) → (T b → T h) → Worthy a uint f v → Worthy b uint g w
-      → Worthy h (resultType o) (sided h o f g) (applied o v w)
-  unfolding sided
-  sided-worthy o false a b f g v w ha hb ok-f ok-g s r =
-      let p = ok-f s r in
-      let q = ok-g (f s .st) (stays s (f s .st) (p .more) r) in
-      let ev = number-worth given σ (f s .st) uint (f s .val) v (λ t. ha (p .label t)) (p .worth) in
-      let ew = number-worth given σ (g (f s .st) .st) uint (g (f s .st) .val) w (λ t. hb (q .label t)) (q .worth) in
-      record {
-        more = more-trans given σ s (f s .st) (g (f s .st) .st) (p .more) (q .more);
-        worth = rw (ev, ew) (refl, refl, applied-top given σ o v w);
-        label = λ t. t;
-      }
-  sided-worthy o true a b f g v w ha hb ok-f ok-g s r =
-      let m = sideAt o in
-      let p = bring m (f s) in
-      let pw = brought a uint m f v (type-side given σ o) ok-f s r in
-      let q = bring m (g (p .st)) in
-      let qw = brought b uint m g w (type-side given σ o) ok-g (p .st) (stays s (p .st) (pw .more) r) in
-      after-gives given σ true s (q .st) (resultType o) (sided true o f g s) (applied o v w) (more-trans given σ s (p .st) (q .st) (pw .more) (qw .more))
-      (wired-as (q .st) (resultAt o) (resultType o) (sided true o f g s) (applied o v w) (type-result given σ o)
-      (both-wired given σ o (q .st) (wireOf (p .val)) (wireOf (q .val)) v w
-      (omega (arith, pw .on, qw .more .wider)) (qw .more .old (wireOf (p .val)) (pw .on) ∙ pw .worth) (qw .more .sorts (wireOf (p .val)) (pw .on) ∙ pw .sorted)
-      (qw .on) (qw .worth) (qw .sorted)))
-
-  -- the arm that a known guard picks
-  arm-worthy : (n : ℕ) (h a b : Bool) (t : Ty) (f g : Act) (v w : ℕ) → (T a → T h) → (T b → T h) → Worthy a t f v → Worthy b t g w
-      → Worthy h t (arm n f g) (arm n v w)
-  unfolding arm
-  arm-worthy zero h a b t f g v w ha hb ok-f ok-g s r = let q = ok-g s r in record { more = q .more; worth = q .worth; label = λ x. hb (q .label x) }
-  arm-worthy (suc n) h a b t f g v w ha hb ok-f ok-g s r = let p = ok-f s r in record { more = p .more; worth = p .worth; label = λ x. ha (p .label x) }
-
-  -- both arms under a guard that is held
-  muxedTo-gives : (t : Ty) (k c : ℕ) (a b : Bool) (f g : Act) (v w : ℕ) → Worthy a t f v → Worthy b t g w
-      → (s : State) → R s → Worth given s bool (held k bit) c → Gives given σ true s t (muxedTo (muxedAt t) k (f s) g) (arm c v w)
-  unfolding muxedTo
-  muxedTo-gives t k c a b f g v w ok-f ok-g s r kw =
-      let m = muxedAt t in
-      let p = bring m (f s) in
-      let pw = brought a t m f v (type-muxed given σ t) ok-f s r in
-      let q = bring m (g (p .st)) in
-      let qw = brought b t m g w (type-muxed given σ t) ok-g (p .st) (stays s (p .st) (pw .more) r) in
-      let all = more-trans given σ s (p .st) (q .st) (pw .more) (qw .more) in
-      after-gives given σ true s (q .st) t (muxedTo m k (f s) g) (arm c v w) all
-      (wired-as (q .st) m t (muxedTo m k (f s) g) (arm c v w) (type-muxed given σ t)
-      (mux-wired given σ t (q .st) k (wireOf (p .val)) (wireOf (q .val)) c v w
-      (omega (arith, kw .0, all .wider)) (all .old k (kw .0) ∙ kw .1) (all .sorts k (kw .0) ∙ kw .2)
-      (omega (arith, pw .on, qw .more .wider)) (qw .more .old (wireOf (p .val)) (pw .on) ∙ pw .worth) (qw .more .sorts (wireOf (p .val)) (pw .on) ∙ pw .sorted)
-      (qw .on) (qw .worth) (qw .sorted)))
-
-  muxed-gives : (t : Ty) (k c : ℕ) (a b : Bool) (f g : Act) (v w : ℕ) → Worthy a t f v → Worthy b t g w
-      → (s : State) → R s → Worth given s bool (held k bit) c → Gives given σ true s t (muxed k f g s) (arm c v w)
-  unfolding muxed
-  muxed-gives t k c a b f g v w ok-f ok-g s r kw =
-      rw (type-worth given σ (f s .st) t (f s .val) v (ok-f s r .worth)) (muxedTo-gives t k c a b f g v w ok-f ok-g s r kw)
-
-  -- the chosen arm, at sort 1 or 3 where the whole is secret
-  kept-gives : (h : Bool) (s : State) (t : Ty) (m : Made) (v : ℕ) → Gives given σ h s t m v → Gives given σ h s t (kept h m) v
-  unfolding kept
-  kept-gives false s t m v g = g
-  kept-gives true s t m v g =
-      rw (type-worth given σ (m .st) t (m .val) v (g .worth))
-      (wired-as s (keptAt t) t (bring (keptAt t) m) v (type-kept given σ t)
-      (bring-wired given σ true (keptAt t) s m v (subst (λ (y : Ty). Gives given σ true s y m v) (sym (type-kept given σ t)) g)))
-
-  bool-bit : (m : Sort) → typeAt m ≡ bool → m ≡ bit
-  bool-bit arithmetic e = absurd (uint≢bool e)
-  bool-bit boolean e = absurd (uint≢bool e)
-  bool-bit bit e = refl
-
-  -- a cond: by a guard that is known, or held
-  pub guarded-worthy : (h c a b : Bool) (t : Ty) (x : Val) (n : ℕ) (f g : Act) (v w : ℕ) → (T c → T h) → (T a → T h) → (T b → T h) → (T (isHeld x) → T c)
-      → Worthy a t f v → Worthy b t g w → (s : State) → R s → Worth given s bool x n → Gives given σ h s t (guarded h x f g s) (arm n v w)
-  unfolding guarded
-  guarded-worthy h c a b t (known y k) n f g v w hc ha hb hx ok-f ok-g s r xw =
-      rw (← xw .0) (kept-gives h s t (arm k f g s) (arm k v w) (arm-worthy k h a b t f g v w ha hb ok-f ok-g s r))
-  guarded-worthy true c a b t (held k o) n f g v w hc ha hb hx ok-f ok-g s r xw =
-      muxed-gives t k n a b f g v w ok-f ok-g s r (xw .0, xw .1, xw .2 ∙ bool-bit o (xw .3), refl)
-  guarded-worthy false c a b t (held k o) n f g v w hc ha hb hx ok-f ok-g s r xw = absurd (hc (hx tt))

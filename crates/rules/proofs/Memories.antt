@@ -1,9 +1,8 @@
 -- What the operations leave in the memories lent to them: a refusal leaves each as it was and counts nothing; acceptance
 -- writes its words from the start of each, and no byte more.
-use Prim.Native.Nat.{ℕ, zero, suc, _+_, _*_, _≤_, _<_}
+use Prim.Native.Nat.{ℕ, zero, suc, _*_, _≤_, _<_}
 use mathlib.Core.Path.{_≡_, refl, sym, subst, ap, _∙_}
 use mathlib.Core.Bool.{_&&_}
-use mathlib.Core.Option.{Option, none, some}
 use mathlib.Core.List.{List, [], _∷_}
 use lib.Dec.{leb, leb→le}
 use lib.ListN.{length, length-append, length-reverse}
@@ -13,21 +12,21 @@ use Rattle.words.specs.Words.{words, over}
 use Rattle.words.proofs.Words.{words-length, over-length}
 use Rattle.rules.specs.Places.{Verdict, refused, accepted, fault, unless, andThen}
 use Rattle.rules.specs.Rows.{rowCount}
-use Rattle.rules.specs.Sorts.{Sort}
-use Rattle.rules.specs.Gates.{Gate, makes, wires, circuitWords}
+use Rattle.rules.specs.Gates.{Gate, wires, circuitWords}
 use Rattle.rules.specs.Run.{State}
-use Rattle.rules.specs.Plain.{Given, Reading, noted, plain, inputs}
+use Rattle.rules.specs.Plain.{Given, inputs}
 use Rattle.rules.specs.Direct.{follow, begin}
-use Rattle.rules.specs.Shares.{Desks, dealt, shared, listed, sharesOne, sharesTwo}
+use Rattle.rules.specs.Shares.{shared, sharesOne, sharesTwo}
 use Rattle.rules.specs.Text.{textWords, lineWords, lineCount}
-use Rattle.rules.specs.Answers.{numberOf, countOf, leaves, outMade, outCount, programOf, runOf}
+use Rattle.rules.specs.Answers.{numberOf, countOf, leaves, outCount, programOf}
 use Rattle.rules.specs.Answers.{built, compile, compileAnswer, compileLeaves}
 use Rattle.rules.specs.Answers.{gatesOf, Lent, Evaluation, evaluate, evaluateAnswer, leavesOne, leavesTwo, leavesOuts}
-use Rattle.rules.specs.Answers.{readOuts, Figures, readDirectly, directAnswer, directLeaves, readText, textAnswer, textLeaves}
+use Rattle.rules.specs.Answers.{readOuts, DirectReading, readDirectly, directAnswer, directLeaves, readText, textAnswer, textLeaves}
 use Rattle.rules.specs.Answers.{failing11, failing13, failing25, failingDirect}
-use Rattle.rules.specs.Refusals.{Builds, Compiles, Evaluates, Reads, ReadsText}
+use Rattle.rules.specs.Refusals.{Compiles, Evaluates, Reads, ReadsText}
 use Rattle.rules.proofs.Places.{fault-none}
 use Rattle.rules.proofs.Ladders.{Rung, ladder}
+use Rattle.rules.proofs.Accepted.{same-outs}
 use Rattle.rules.proofs.Circuits.{out-count, outs-of-shares}
 use Rattle.rules.proofs.Listed.{length-listed}
 use Rattle.rules.proofs.Refusals.{tableRungs, circuitRungs, evaluateRungs, directRungs, textRungs}
@@ -184,7 +183,7 @@ evaluate-accepted-leaves l e = (
 )
 
 -- the outputs over the direct reading's memory,
-pub direct-accepted-leaves : (t i1 i2 o : List ℕ) {f : Figures} → readDirectly t i1 i2 o ≡ accepted f → directLeaves t i1 i2 o ≡ over (f .outs) o
+pub direct-accepted-leaves : (t i1 i2 o : List ℕ) {f : DirectReading} → readDirectly t i1 i2 o ≡ accepted f → directLeaves t i1 i2 o ≡ over (f .outs) o
 unfolding directLeaves
 direct-accepted-leaves t i1 i2 o e = accepted-leaves (λ f. f .outs) o e
 
@@ -254,24 +253,18 @@ text-fits text table (ReadsText.all-hold c) =
     let fits = one-fits (4 * lineCount text) (length (words table)) (c .1 .1 .0) in
     omega (arith, text-words-length text (lineCount text))
 
--- An accepted table's direct reading puts out what its circuit does. This is demand 2, and a premise here.
-abbrev pub SameOuts : List ℕ → Given → Type 0
-SameOuts t given = built t ≡ accepted (runOf t) → plain given (runOf t .gates) .outs ≡ follow given (programOf t) begin .outs
-
--- so its outputs are as many as the circuit's outs
-pub read-outs-length : (t : List ℕ) (given : Given) → SameOuts t given → built t ≡ accepted (runOf t)
-    → length (readOuts t given) ≡ outCount (runOf t .gates)
+-- an accepted table's direct reading puts out as many values as its circuit has outs (demand 2)
+pub read-outs-length : (t : List ℕ) {s : State} → built t ≡ accepted s → (given : Given) → length (readOuts t given) ≡ outCount (s .gates)
 unfolding readOuts
-read-outs-length t given same e =
-    length-reverse (follow given (programOf t) begin .outs) ∙ ap (λ (l : List ℕ). length l) (sym (same e)) ∙ out-count given (runOf t .gates)
+read-outs-length t {s} e given =
+    length-reverse (follow given (programOf t) begin .outs) ∙ ap (λ (l : List ℕ). length l) (sym (same-outs t e given)) ∙ out-count given (s .gates)
 
 -- and they fit: check 25
-pub direct-fits : (t i1 i2 o : List ℕ) {f : Figures} → SameOuts t (inputs (words i1) (words i2)) → Reads t i1 i2 o (accepted f)
-    → length (f .outs) ≤ length (words o)
+pub direct-fits : (t i1 i2 o : List ℕ) {f : DirectReading} → Reads t i1 i2 o (accepted f) → length (f .outs) ≤ length (words o)
 unfolding failingDirect
-direct-fits t i1 i2 o same (Reads.all-hold (Builds.all-hold b) c) =
-    let fits = one-fits (outCount (runOf t .gates)) (length (words o)) (c .1 .1 .0) in
-    omega (arith, read-outs-length t (inputs (words i1) (words i2)) same (builds t _ .0 (Builds.all-hold b)))
+direct-fits t i1 i2 o (Reads.all-hold {s = s} b c) =
+    let fits = one-fits (outCount (s .gates)) (length (words o)) (c .1 .1 .0) in
+    omega (arith, read-outs-length t (builds t (accepted s) .0 b) (inputs (words i1) (words i2)))
 
 -- Accepted or refused, every lent memory keeps its length: compile's circuit,
 pub compile-length : (t circuit : List ℕ) → length (compileLeaves t circuit) ≡ length circuit
@@ -290,10 +283,10 @@ evaluate-length l = (
 )
 
 -- the direct reading's outputs,
-pub direct-length : (t i1 i2 o : List ℕ) → SameOuts t (inputs (words i1) (words i2)) → length (directLeaves t i1 i2 o) ≡ length o
+pub direct-length : (t i1 i2 o : List ℕ) → length (directLeaves t i1 i2 o) ≡ length o
 unfolding directLeaves
-direct-length t i1 i2 o same =
-    leaves-length (readDirectly t i1 i2 o) (λ f. f .outs) o λ f e. direct-fits t i1 i2 o same (reads-directly t i1 i2 o (accepted f) .1 e)
+direct-length t i1 i2 o =
+    leaves-length (readDirectly t i1 i2 o) (λ f. f .outs) o λ f e. direct-fits t i1 i2 o (reads-directly t i1 i2 o (accepted f) .1 e)
 
 -- and a text's table.
 pub text-length : (text table : List ℕ) → length (textLeaves text table) ≡ length table

@@ -8,8 +8,7 @@ use lib.Dec.{T, T-not}
 use native.Mathlib.Decide.{decLe}
 use native.Mathlib.Omega.{arith}
 use Rattle.rules.specs.Places.{Verdict, refused, accepted, fault, failingBelow, lowest, unless, andThen}
-use Rattle.rules.specs.Sites.{Site, rowN, failing}
-use Rattle.rules.specs.Refusals.{In, Lowest, Clear}
+use Rattle.rules.specs.Refusals.{In, Lowest}
 
 -- the smaller of two places is one of them
 min-one-of : (p q : ℕ) → (min p q ≡ p) ⊎ (min p q ≡ q)

@@ -10,7 +10,7 @@ use Rattle.rules.specs.Run.{State}
 use Rattle.rules.specs.Plain.{inputs}
 use Rattle.rules.specs.Answers.{failing1, failing2, failing3, failing4, failing5, failing6, failing7, failing8, failing9, failing10, failing11}
 use Rattle.rules.specs.Answers.{failing20, failing21, failing22, failing23, failing24, failing25, failingDirect, failingText, failing12, failing13}
-use Rattle.rules.specs.Answers.{runOf, built, compile, gatesOf, Lent, Evaluation, evaluate, Figures, readOuts, readDirectly, readText}
+use Rattle.rules.specs.Answers.{runOf, built, compile, gatesOf, Lent, Evaluation, evaluate, DirectReading, readOuts, readDirectly, readText}
 use Rattle.rules.specs.Refusals.{Clear, Builds, Compiles, Evaluates, Reads, ReadsText}
 use Rattle.rules.proofs.Places.{then-refused, then-accepted}
 use Rattle.rules.proofs.Ladders.{Rung, rung, ladder, allPlaces, refuses-at, leads-up, by-cases}
@@ -41,7 +41,7 @@ evaluateRungs l =
     let one = words (l .inputs1) in
     let two = words (l .inputs2) in
     rung 20 (failing20 (l .circuit))
-    ∷ rung 21 (failing21 (l .circuit))
+    ∷ rung 21 (failing21 (words (l .circuit)))
     ∷ rung 22 (failing22 c one two)
     ∷ rung 23 (failing23 c one two)
     ∷ rung 24 (failing24 (gatesOf (l .circuit)) (l .tape))
@@ -88,7 +88,7 @@ evaluate-case l =
     (λ p. Evaluates.no-24) (λ p. Evaluates.no-25) Evaluates.all-hold
 
 -- what the direct reading has at the end
-abbrev figures : List ℕ → List ℕ → List ℕ → State → Figures
+abbrev figures : List ℕ → List ℕ → List ℕ → State → DirectReading
 figures t i1 i2 s = record { wires = s .wires; outs = readOuts t (inputs (words i1) (words i2)) }
 
 -- direct reading, after a table's checks
@@ -144,7 +144,7 @@ evaluate-is l (Evaluates.no-25 c m) = refuses-at 5 (evaluateRungs l) _ c m
 evaluate-is l (Evaluates.all-hold c) = leads-up (evaluateRungs l) _ c
 
 -- direct reading
-pub direct-is : (t i1 i2 o : List ℕ) {v : Verdict Figures} → Reads t i1 i2 o v → readDirectly t i1 i2 o ≡ v
+pub direct-is : (t i1 i2 o : List ℕ) {v : Verdict DirectReading} → Reads t i1 i2 o v → readDirectly t i1 i2 o ≡ v
 unfolding readDirectly
 direct-is t i1 i2 o (Reads.as-built b) = then-refused _ (built-is t b)
 direct-is t i1 i2 o (Reads.no-22 {s = s} b l) = then-accepted _ (built-is t b) ∙ refuses-at 0 (directRungs s i1 i2 o) _ tt l
@@ -173,7 +173,7 @@ pub evaluates : (l : Lent) (v : Verdict Evaluation) → Evaluates l v ↔ (evalu
 evaluates l v = (evaluate-is l, λ e. subst (Evaluates l) e (evaluate-case l))
 
 -- direct reading,
-pub reads-directly : (t i1 i2 o : List ℕ) (v : Verdict Figures) → Reads t i1 i2 o v ↔ (readDirectly t i1 i2 o ≡ v)
+pub reads-directly : (t i1 i2 o : List ℕ) (v : Verdict DirectReading) → Reads t i1 i2 o v ↔ (readDirectly t i1 i2 o ≡ v)
 reads-directly t i1 i2 o v = (direct-is t i1 i2 o, λ e. subst (Reads t i1 i2 o) e (direct-case t i1 i2 o))
 
 -- and text.
@@ -193,7 +193,7 @@ pub evaluates-one : (l : Lent) {v w : Verdict Evaluation} → Evaluates l v → 
 evaluates-one l a b = sym (evaluate-is l a) ∙ evaluate-is l b
 
 -- of direct reading,
-pub reads-directly-one : (t i1 i2 o : List ℕ) {v w : Verdict Figures} → Reads t i1 i2 o v → Reads t i1 i2 o w → v ≡ w
+pub reads-directly-one : (t i1 i2 o : List ℕ) {v w : Verdict DirectReading} → Reads t i1 i2 o v → Reads t i1 i2 o w → v ≡ w
 reads-directly-one t i1 i2 o a b = sym (direct-is t i1 i2 o a) ∙ direct-is t i1 i2 o b
 
 -- and of text.

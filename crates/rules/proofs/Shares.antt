@@ -2,27 +2,24 @@
 -- shares tell two fit sets of inputs apart (demand 3). And what checks 21 and 23 say, these theorems need.
 use mathlib.Core.Path.{_≡_, refl, sym, ap, ap₂, _∙_, subst}
 use mathlib.Core.Logic.{_⊎_, inl, inr, ⊎-elim}
-use Prim.Native.Nat.{ℕ, zero, suc, _+_, _*_, _%_, _<_}
+use Prim.Native.Nat.{ℕ, zero, suc, _+_, _%_, _<_}
 use native.Mathlib.Nat.{mod-eq-of-lt, add-assoc, add-comm, add-mod-mod, mod-add-mod}
 use native.Mathlib.Omega.{arith}
 use mathlib.Core.Bool.{Bool, true, false, cond, _&&_, _||_}
 use mathlib.Core.Option.{Option, none, some}
-use mathlib.Core.List.{List, [], _∷_, _++_, cons≢nil}
+use mathlib.Core.List.{List, [], _∷_, _++_}
 use lib.Bits.{bitXor, xor-mod, xor-lt, xor-comm}
 use lib.Dec.{T, eqb, ltb, ltb→lt, leb→le, eqb→eq}
 use lib.ListN.{getD, List·getD-eq-default}
 use borrow.Author.Tests.{eqb-true, eqb-false, ltb-true, ltb-false}
 use Rattle.words.specs.Words.{AllWords}
-use Rattle.rules.specs.Places.{fault, failingBelow}
 use Rattle.rules.specs.Rows.{Op, add, gt}
-use Rattle.rules.specs.Sorts.{Sort, arithmetic, boolean, bit, sortNumber, sortNumbered, same, holds, sideAt, resultAt, applied, arm}
+use Rattle.rules.specs.Sorts.{Sort, arithmetic, boolean, bit, same, fitsSort, sideAt, resultAt, applied, arm}
 use Rattle.rules.specs.Gates.{Gate, both, mux, constant, convert, entry, output, gateWords, circuitWords}
-use Rattle.rules.specs.Gates.{unknown, gateKinds, unlisted, withSort, gateOf, gateWord, gateAt, gateCount, added, gatesTo}
-use Rattle.rules.specs.Gates.{makes, Wires, sortMade, wired, wires, isWire, isNext, keepsRules, keeps, check21, AllKeep, entryTest}
-use Rattle.rules.specs.Plain.{Given, inputs, valueOf, Reading, noted, plain}
-use Rattle.rules.specs.Shares.{minus, shareOne, shareTwo, join, taken, tapeFor, Desks, joined, dealt, shared, listed}
-use Rattle.rules.specs.Shares.{sharesOne, sharesTwo, partnerWord, partner, Tape, FitBools, Fit, Private}
-use Rattle.rules.specs.Answers.{failing23}
+use Rattle.rules.specs.Gates.{makes, Wires, sortMade, wired, wires, isWire, isNext, keepsRules, AllKeep, entryTest}
+use Rattle.rules.specs.Plain.{Given, valueOf, Reading, noted, plain}
+use Rattle.rules.specs.Shares.{minus, shareOne, shareTwo, join, taken, tapeFor, Desks, joinedAt, dealt, shared, listed}
+use Rattle.rules.specs.Shares.{sharesOne, sharesTwo, partnerWord, partner, Tape, Fit, Private}
 use Rattle.rules.proofs.Xor.{xor-cancel, xor-back, xor-turn}
 use Rattle.rules.proofs.Listed.{length-listed, getD-listed, listed-same, listed-getD}
 
@@ -30,10 +27,10 @@ use Rattle.rules.proofs.Listed.{length-listed, getD-listed, listed-same
 
 -- a word that may stand on a wire of the sort
 abbrev Good : Sort → ℕ → Type 0
-Good m v = (v < 4294967296) × T (holds m v)
+Good m v = (v < 4294967296) × T (fitsSort m v)
 
 -- two shares join to the value
-pub join-shares : (m : Sort) (v t : ℕ) → v < 4294967296 → T (holds m v) → t < 4294967296 → join m (shareOne m t) (shareTwo m v t) ≡ v
+pub join-shares : (m : Sort) (v t : ℕ) → v < 4294967296 → T (fitsSort m v) → t < 4294967296 → join m (shareOne m t) (shareTwo m v t) ≡ v
 join-shares arithmetic v t word held tape = omega arith
 join-shares boolean v t word held tape = xor-comm t (bitXor v t) ∙ xor-cancel v t
 join-shares bit v t word held tape = xor-comm (t % 2) (bitXor v (t % 2)) ∙ xor-cancel v (t % 2)
@@ -71,7 +68,7 @@ minus-turn v v' t hv hv' ht =
     ∙ minus-adds v' v hv' hv)
 
 -- the lowest bit of a bool's partner word
-partner-bit : (v v' t : ℕ) → T (holds bit v) → T (holds bit v') → bitXor t (bitXor v v') % 2 ≡ bitXor (t % 2) (bitXor v v')
+partner-bit : (v v' t : ℕ) → T (fitsSort bit v) → T (fitsSort bit v') → bitXor t (bitXor v v') % 2 ≡ bitXor (t % 2) (bitXor v v')
 partner-bit v v' t held held' =
     xor-mod t (bitXor v v') 1
     ∙ ap (λ (x : ℕ). bitXor (t % 2) x) (mod-eq-of-lt (xor-lt 1 v v' (omega (arith, leb→le v 1 held)) (omega (arith, leb→le v' 1 held'))))
@@ -136,13 +133,13 @@ Alike w a b = (a < w .count) × (b < w .count) × (w .sort b ≡ w .sort a)
 
 -- a wire, and a sort of uints: any number may stand on it
 abbrev Converts : Wires → ℕ → Sort → Type 0
-Converts w x m = (x < w .count) × ((v : ℕ) → T (holds m v))
+Converts w x m = (x < w .count) × ((v : ℕ) → T (fitsSort m v))
 
 -- what the theorems below use of the rules: wires read are below the count, and a new one has the next number
 abbrev Kept : Wires → Gate → Type 0
 Kept w (both o a b new) = (a < w .count) × (b < w .count) × (new ≡ w .count)
 Kept w (mux g a b new) = (g < w .count) × Alike w a b × (new ≡ w .count)
-Kept w (constant v m new) = T (holds m v) × (new ≡ w .count)
+Kept w (constant v m new) = T (fitsSort m v) × (new ≡ w .count)
 Kept w (convert x m new) = Converts w x m × (new ≡ w .count)
 Kept w (entry d n m new) = new ≡ w .count
 Kept w (output x) = x < w .count
@@ -162,11 +159,11 @@ mux-arms gs a b t =
     (or-cases (isWire gs a boolean && isWire gs b boolean) (isWire gs a bit && isWire gs b bit) t)
 
 -- a wire, and a sort that passes for one of uints
-converts : (gs : List Gate) (w : ℕ) (from to m : Sort) → ((v : ℕ) → T (holds to v)) → T (isWire gs w from && same m to)
+converts : (gs : List Gate) (w : ℕ) (from to m : Sort) → ((v : ℕ) → T (fitsSort to v)) → T (isWire gs w from && same m to)
     → Converts (wires gs) w m
 converts gs w from to m any t = (
   wire-below gs w from (search parts),
-  λ v. subst (λ (k : Sort). T (holds k v)) (sym (same-is m to (search parts))) (any v),
+  λ v. subst (λ (k : Sort). T (fitsSort k v)) (sym (same-is m to (search parts))) (any v),
 )
 
 -- a convert reads a wire and makes a uint
@@ -232,7 +229,7 @@ arm-good m (suc g) a b good good' = good
 -- a gate over good values gives a good value
 module _ (given : Given) (w : Wires) (value : ℕ → ℕ) (fits : (d n : ℕ) → given d n < 4294967296)
     (good : (k : ℕ) → k < w .count → Good (w .sort k) (value k)) where
-  made-good : (g : Gate) → Kept w g → AllWords (gateWords g) → T (entryTest (λ d n m. holds m (given d n)) (some g))
+  made-good : (g : Gate) → Kept w g → AllWords (gateWords g) → T (entryTest (λ d n m. fitsSort m (given d n)) (some g))
       → Good (sortMade (w .sort) g) (valueOf given value g)
   unfolding sortMade valueOf
   made-good (both o a b new) kept ws ok = applied-good o (value a) (value b)
@@ -279,7 +276,7 @@ fit-before g gs fit = record { words = fit .words; bools = fit .bools .1 }
 
 -- every wire's value is a word, and one of its sort
 pub values-fit : (gs : List Gate) → AllKeep gs → AllWords (circuitWords gs) → {given : Given} → Fit gs given
-    → (k : ℕ) → k < wires gs .count → (plain given gs .value k < 4294967296) × T (holds (wires gs .sort k) (plain given gs .value k))
+    → (k : ℕ) → k < wires gs .count → (plain given gs .value k < 4294967296) × T (fitsSort (wires gs .sort k) (plain given gs .value k))
 unfolding wires plain
 values-fit [] keep ws fit = λ k below. absurd (omega arith)
 values-fit (g ∷ gs) keep ws {given} fit =
@@ -341,7 +338,7 @@ module _ (given : Given) (tape : List ℕ) (taped : (k : ℕ) → getD tape k 0 
 
   -- then the two desks' shares join to them
   joined-is : (gs : List Gate) → AllKeep gs → AllWords (circuitWords gs) → Fit gs given → TwoIs gs
-      → (k : ℕ) → k < wires gs .count → joined (wires gs .sort) (shared given tape gs) k ≡ plain given gs .value k
+      → (k : ℕ) → k < wires gs .count → joinedAt (wires gs .sort) (shared given tape gs) k ≡ plain given gs .value k
   unfolding taken
   joined-is gs keep ws fit two k below =
       let good = values-fit gs keep ws fit k below in
@@ -350,9 +347,9 @@ module _ (given : Given) (tape : List ℕ) (taped : (k : ℕ) → getD tape k 0 
 
   -- then the next gate gives what it plainly gives
   value-is : (g : Gate) (gs : List Gate) → AllKeep (g ∷ gs) → AllWords (circuitWords (g ∷ gs)) → Fit (g ∷ gs) given → TwoIs gs
-      → valueOf given (joined (wires gs .sort) (shared given tape gs)) g ≡ valueOf given (plain given gs .value) g
+      → valueOf given (joinedAt (wires gs .sort) (shared given tape gs)) g ≡ valueOf given (plain given gs .value) g
   value-is g gs keep ws fit two =
-      made-same given (wires gs) (joined (wires gs .sort) (shared given tape gs)) (plain given gs .value)
+      made-same given (wires gs) (joinedAt (wires gs .sort) (shared given tape gs)) (plain given gs .value)
       (joined-is gs (keep .1) (words-before g gs ws) (fit-before g gs fit) two) g (kept-of gs g (keep .0))
 
   -- so desk two's shares are those of the plain values, gate by gate
@@ -370,7 +367,7 @@ module _ (given : Given) (tape : List ℕ) (taped : (k : ℕ) → getD tape k 0 
 -- the two desks' shares of every wire join to its plain value
 pub shares-join : (gs : List Gate) → AllKeep gs → AllWords (circuitWords gs) → {given : Given} → Fit gs given
     → (tape : List ℕ) → ((k : ℕ) → getD tape k 0 < 4294967296)
-    → (k : ℕ) → k < wires gs .count → joined (wires gs .sort) (shared given tape gs) k ≡ plain given gs .value k
+    → (k : ℕ) → k < wires gs .count → joinedAt (wires gs .sort) (shared given tape gs) k ≡ plain given gs .value k
 shares-join gs keep ws {given} fit tape taped = joined-is given tape taped gs keep ws fit (two-is given tape taped gs keep ws fit)
 
 -- one gate more, for the outputs
@@ -473,164 +470,7 @@ demand-three gs keep ws {given} {given'} fit fit' =
       back = partner-tape gs keep ws fit' fit;
       there-back = partner-undone gs keep ws fit fit';
       back-there = partner-undone gs keep ws fit' fit;
+      joins = λ tape is. shares-join gs keep ws fit tape (is .words);
+      joins' = λ tape is. shares-join gs keep ws fit' tape (is .words);
       desk-two = two-same gs keep ws fit fit';
     }
-
--- What the checks say.
-
--- where a list of two parts is empty, the first part is
-nil-left : (xs ys : List ℕ) → xs ++ ys ≡ [] → xs ≡ []
-nil-left [] ys e = refl
-nil-left (x ∷ xs) ys e = absurd (cons≢nil e)
-
--- and the second is
-nil-right : (xs ys : List ℕ) → xs ++ ys ≡ [] → ys ≡ []
-nil-right [] ys e = e
-nil-right (x ∷ xs) ys e = absurd (cons≢nil e)
-
--- no fault: the test is true
-no-fault : (t : Bool) (p : ℕ) → fault t p ≡ [] → T t
-unfolding fault
-no-fault true p e = tt
-no-fault false p e = absurd (cons≢nil e)
-
--- where no place below n + 1 fails, none below n does
-none-before : (ok : ℕ → Bool) (n : ℕ) → failingBelow ok (suc n) ≡ [] → failingBelow ok n ≡ []
-unfolding failingBelow
-none-before ok n e = nil-left (failingBelow ok n) (fault (ok n) n) e
-
--- and place n passes
-passes-last : (ok : ℕ → Bool) (n : ℕ) → failingBelow ok (suc n) ≡ [] → T (ok n)
-unfolding failingBelow
-passes-last ok n e = no-fault (ok n) n (nil-right (failingBelow ok n) (fault (ok n) n) e)
-
--- one gate more keeps the rules
-keep-step : (g : Option Gate) (gs : List Gate) → T (keeps gs g) → AllKeep gs → AllKeep (added g gs)
-keep-step none gs ok keep = absurd ok
-keep-step (some g) gs ok keep = (ok, keep)
-
--- where no gate fails check 21, all keep the rules
-pub keeps-of : (c : List ℕ) (n : ℕ) → failingBelow (check21 c) n ≡ [] → AllKeep (gatesTo c n)
-unfolding gatesTo check21
-keeps-of c zero e = tt
-keeps-of c (suc n) e =
-    keep-step (gateAt c n) (gatesTo c n) (passes-last (check21 c) n e) (keeps-of c n (none-before (check21 c) n e))
-
--- Five words and the gate that they are.
-
--- these are the words of the gate, if it is one
-abbrev Written : Option Gate → List ℕ → Type 0
-Written none ws = Unit {0}
-Written (some g) ws = gateWords g ≡ ws
-
--- an unlisted word is 0
-written-unlisted : (d : ℕ) (g : Option Gate) (ws : ℕ → List ℕ) → Written g (ws 0) → Written (unlisted d g) (ws d)
-written-unlisted zero g ws is = is
-written-unlisted (suc d) g ws is = tt
-
--- a sort's word is its number
-written-sort : (n : ℕ) (g : Sort → Gate) (ws : ℕ → List ℕ) → ((m : Sort) → gateWords (g m) ≡ ws (sortNumber m))
-    → Written (withSort (sortNumbered n) g) (ws n)
-unfolding sortNumbered
-written-sort zero g ws is = tt
-written-sort (suc zero) g ws is = is arithmetic
-written-sort (suc (suc zero)) g ws is = is boolean
-written-sort (suc (suc (suc zero))) g ws is = is bit
-written-sort (suc (suc (suc (suc n)))) g ws is = tt
-
--- the gate of five words has these words
-written : (k a b c d : ℕ) → Written (gateOf (getD gateKinds k unknown) a b c d) (k ∷ a ∷ b ∷ c ∷ d ∷ [])
-unfolding gateKinds gateOf
-written zero a b c d = tt
-written (suc zero) a b c d = written-unlisted d (some (both add a b c)) (λ x. 1 ∷ a ∷ b ∷ c ∷ x ∷ []) refl
-written (suc (suc zero)) a b c d = refl
-written (suc (suc (suc zero))) a b c d = written-unlisted d (some (both gt a b c)) (λ x. 3 ∷ a ∷ b ∷ c ∷ x ∷ []) refl
-written (suc (suc (suc (suc zero)))) a b c d =
-    written-unlisted d (withSort (sortNumbered b) (λ m. constant a m c)) (λ x. 4 ∷ a ∷ b ∷ c ∷ x ∷ [])
-    (written-sort b (λ m. constant a m c) (λ x. 4 ∷ a ∷ x ∷ c ∷ 0 ∷ []) (λ m. refl))
-written (suc (suc (suc (suc (suc zero))))) a b c d =
-    written-unlisted d (withSort (sortNumbered b) (λ m. convert a m c)) (λ x. 5 ∷ a ∷ b ∷ c ∷ x ∷ [])
-    (written-sort b (λ m. convert a m c) (λ x. 5 ∷ a ∷ x ∷ c ∷ 0 ∷ []) (λ m. refl))
-written (suc (suc (suc (suc (suc (suc zero)))))) a b c d = written-sort c (λ m. entry a b m d) (λ x. 6 ∷ a ∷ b ∷ x ∷ d ∷ []) (λ m. refl)
-written (suc (suc (suc (suc (suc (suc (suc zero))))))) a b c d =
-    written-unlisted b (unlisted c (unlisted d (some (output a)))) (λ x. 7 ∷ a ∷ x ∷ c ∷ d ∷ [])
-    (written-unlisted c (unlisted d (some (output a))) (λ x. 7 ∷ a ∷ 0 ∷ x ∷ d ∷ [])
-    (written-unlisted d (some (output a)) (λ x. 7 ∷ a ∷ 0 ∷ 0 ∷ x ∷ []) refl))
-written (suc (suc (suc (suc (suc (suc (suc (suc k)))))))) a b c d = tt
-
--- the words of gate i of a circuit's words
-abbrev pub fiveWords : List ℕ → ℕ → List ℕ
-fiveWords c i = gateWord c i 0 ∷ gateWord c i 1 ∷ gateWord c i 2 ∷ gateWord c i 3 ∷ gateWord c i 4 ∷ []
-
--- they are the words of the gate at i, if it is one
-written-at : (c : List ℕ) (i : ℕ) → Written (gateAt c i) (fiveWords c i)
-unfolding gateAt
-written-at c i = written (gateWord c i 0) (gateWord c i 1) (gateWord c i 2) (gateWord c i 3) (gateWord c i 4)
-
--- the gate at i has the five words from 5 * i on
-pub decoded : (c : List ℕ) (i : ℕ) (g : Gate) → gateAt c i ≡ some g → gateWords g ≡ fiveWords c i
-decoded c i g e = subst (λ (o : Option Gate). Written o (fiveWords c i)) e (written-at c i)
-
--- word k of words is a word, and past the end 0
-pub word-at : (ws : List ℕ) → AllWords ws → (k : ℕ) → getD ws k 0 < 4294967296
-word-at [] words k = omega arith
-word-at (w ∷ ws) words zero = words .0
-word-at (w ∷ ws) words (suc k) = word-at ws (words .1) k
-
--- five words of words are words
-five-words : (c : List ℕ) (i : ℕ) → AllWords c → AllWords (fiveWords c i)
-unfolding gateWord
-five-words c i words = (at 0, (at 1, (at 2, (at 3, (at 4, tt)))))
-  where
-    at : (k : ℕ) → getD c (5 * i + k) 0 < 4294967296
-    at k = word-at c words (5 * i + k)
-
--- words and more words
-words-append : (xs ys : List ℕ) → AllWords xs → AllWords ys → AllWords (xs ++ ys)
-words-append [] ys ws vs = vs
-words-append (x ∷ xs) ys ws vs = (ws .0, words-append xs ys (ws .1) vs)
-
--- one gate more has words
-words-step : (g : Option Gate) (gs : List Gate) (ws : List ℕ) → Written g ws → AllWords ws → AllWords (circuitWords gs)
-    → AllWords (circuitWords (added g gs))
-unfolding circuitWords
-words-step none gs ws is words before = before
-words-step (some g) gs ws is words before = words-append (circuitWords gs) (gateWords g) before (subst AllWords (sym is) words)
-
--- the gates of words have words
-pub words-of : (c : List ℕ) (n : ℕ) → AllWords c → AllWords (circuitWords (gatesTo c n))
-unfolding gatesTo circuitWords
-words-of c zero words = tt
-words-of c (suc n) words =
-    words-step (gateAt c n) (gatesTo c n) (fiveWords c n) (written-at c n) (five-words c n words) (words-of c n words)
-
--- one gate more reads fit bools
-bools-step : (given : Given) (g : Option Gate) (gs : List Gate) → T (entryTest (λ d n m. holds m (given d n)) g) → FitBools given gs
-    → FitBools given (added g gs)
-bools-step given none gs ok before = before
-bools-step given (some g) gs ok before = (ok, before)
-
--- where no gate fails check 23, every bool read is 0 or 1
-bools-of : (c : List ℕ) (given : Given) (n : ℕ) → failingBelow (λ i. entryTest (λ d k m. holds m (given d k)) (gateAt c i)) n ≡ []
-    → FitBools given (gatesTo c n)
-unfolding gatesTo
-bools-of c given zero e = tt
-bools-of c given (suc n) e =
-    let ok : ℕ → Bool = λ i. entryTest (λ d k m. holds m (given d k)) (gateAt c i) in
-    bools-step given (gateAt c n) (gatesTo c n) (passes-last ok n e) (bools-of c given n (none-before ok n e))
-
--- the desks' inputs are words
-inputs-word : (one two : List ℕ) → AllWords one → AllWords two → (d n : ℕ) → inputs one two d n < 4294967296
-unfolding inputs
-inputs-word one two ones twos d n = go (eqb d 1)
-  where
-    go : (t : Bool) → getD (cond t one two) n 0 < 4294967296
-    go true = word-at one ones n
-    go false = word-at two twos n
-
--- inputs that pass check 23 fit the circuit
-pub fit-of : (c one two : List ℕ) → failing23 c one two ≡ [] → AllWords one → AllWords two
-    → Fit (gatesTo c (gateCount c)) (inputs one two)
-unfolding failing23
-fit-of c one two e ones twos =
-    record { words = inputs-word one two ones twos; bools = bools-of c (inputs one two) (gateCount c) e }

@@ -1,16 +1,13 @@
 -- The sites of a formed program: their rows, and the rows of what is in scope there, lie below the number of rows.
-use Prim.Native.Nat.{ℕ, zero, suc, _<_}
-use mathlib.Core.Path.{_≡_, refl, sym, subst, ap, _∙_}
+use Prim.Native.Nat.{ℕ, suc}
 use mathlib.Core.Bool.{Bool, true, false, cond}
-use mathlib.Core.Option.{Option, none, some}
-use mathlib.Core.List.{List, [], _∷_, _++_}
+use mathlib.Core.Option.{some}
+use mathlib.Core.List.{List, _∷_, _++_}
 use lib.Dec.{eqb}
-use native.Mathlib.Omega.{arith}
-use Rattle.rules.specs.Rows.{Ty}
 use Rattle.rules.specs.Tree.{Expr, number, truth, name, two, choose, element, input, rowE}
 use Rattle.rules.specs.Tree.{Stmt, declare, assign, loop, write, branch, out, then, rowS}
-use Rattle.rules.specs.Scope.{Known, declared, looped, Entry, Scope, lookup, inLoop, after}
-use Rattle.rules.specs.Sites.{Node, ofE, ofS, rowN, Site, site, sitesE, sites}
+use Rattle.rules.specs.Scope.{Known, declared, looped, Scope, lookup, inLoop, after}
+use Rattle.rules.specs.Sites.{rowN, Site, sitesE, sites}
 use Rattle.rules.proofs.Sites.{Each, each-both}
 use Rattle.rules.proofs.Formed.{FormedE, FormedS}
 use Rattle.rules.proofs.Labels.{DeclaredBelow, RowsBelow}

@@ -1,6 +1,6 @@
 -- The laws of checks over sites: what holds of each site of a list.
 use mathlib.Core.Path.{_≡_, refl}
-use mathlib.Core.Bool.{Bool, true, false}
+use mathlib.Core.Bool.{Bool}
 use mathlib.Core.List.{List, [], _∷_, _++_}
 use lib.Dec.{T}
 use Rattle.rules.specs.Places.{fault}

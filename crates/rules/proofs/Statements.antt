@@ -3,27 +3,27 @@ use Prim.Native.Nat.{ℕ, zero, suc, _+_, _*_, _-_, _≤_, _<_}
 use mathlib.Core.Path.{_≡_, refl, sym, subst, ap, _∙_}
 use mathlib.Core.Logic.{_≢_}
 use mathlib.Core.Bool.{Bool, true, false}
-use mathlib.Core.Option.{Option, none, some}
+use mathlib.Core.Option.{some}
 use mathlib.Core.List.{List, [], _∷_}
-use lib.Dec.{T, eqb, ltb, lt→ltb}
-use lib.ListN.{length, getD, set, replicate, length-replicate}
+use lib.Dec.{T, eqb, lt→ltb}
+use lib.ListN.{getD, set, length-replicate}
 use lib.Seq.{getD-set-same, getD-set-other}
 use borrow.Author.Tests.{eqb-true, eqb-false}
 use native.Mathlib.Omega.{arith}
 use native.Mathlib.Nat.{add-zero, add-suc, suc-add}
-use Rattle.rules.specs.Rows.{Ty, uint, bool}
-use Rattle.rules.specs.Tree.{Expr, rowE}
+use Rattle.rules.specs.Rows.{Ty, uint}
+use Rattle.rules.specs.Tree.{rowE}
 use Rattle.rules.specs.Tree.{Stmt, declare, assign, loop, write, branch, out, then}
 use Rattle.rules.specs.Scope.{Known, declared, looped, Scope, lookup, elements, typeK, inLoop, after}
 use Rattle.rules.specs.Types.{typeE}
-use Rattle.rules.specs.Counts.{countK, count}
+use Rattle.rules.specs.Counts.{countK}
 use Rattle.rules.specs.Sorts.{Sort, keptAt, typeAt, arm}
-use Rattle.rules.specs.Gates.{constant, output, wires, wired, keepsRules}
-use Rattle.rules.specs.Run.{Val, known, held, State, Made, wireOf, numberOf, make, bring, cell, put, stepped, first, firsts, storeOver, store, putWire, putVal, turns, runE, run, start}
+use Rattle.rules.specs.Gates.{constant, wires, wired, keepsRules}
+use Rattle.rules.specs.Run.{Val, known, held, State, Made, wireIn, numberIn, make, bring, cell, put, stepped, first, firsts, storeOver, store, putWire, putVal, turns, runE, run, start}
 use Rattle.rules.specs.Plain.{Given, valueOf, noted, plain}
 use Rattle.rules.specs.Direct.{direct, Now, keep, blank, follow, begin}
-use Rattle.rules.proofs.Making.{isHeld, topOf, Worth, Good, More, Gives, Wired, more-refl, more-trans, wired-gives, constant-wired, bring-wired, number-worth, type-worth, type-kept}
-use Rattle.rules.proofs.Fine.{sizeK, labelK, Free, FineE, FineS}
+use Rattle.rules.proofs.Making.{isHeld, topOf, Worth, Good, More, Gives, Wired, more-refl, wired-gives, constant-wired, bring-wired, number-worth, type-kept}
+use Rattle.rules.proofs.Fine.{sizeK, labelK, Free, FineS}
 use Rattle.rules.proofs.Expressions.{AtSort, Cell, Agrees, cell-more, size-pos, below-size, agrees-more, index-below, expr-agrees}
 use Rattle.rules.proofs.Cells.{none≢some, cell-same, put-out, put-in, bind, leave, under, stepped-agrees}
 
@@ -200,7 +200,7 @@ module _ (S : ℕ → Bool) (given : Given) (σ : ℕ → ℕ → Sort) where
       let m = make (constant n (keptAt y)) (keptAt y) s in
       let top = subst (λ (z : Ty). n ≤ topOf z) (sym (w .1) ∙ sym (type-kept given σ y)) (w .2) in
       let k = constant-wired given σ s (keptAt y) n top in
-      putWire-holds sc (m .st) d (wireOf (m .val)) v (holds-more sc s (m .st) d (k .more) a) (k .on) (k .worth ∙ w .0)
+      putWire-holds sc (m .st) d (wireIn (m .val)) v (holds-more sc s (m .st) d (k .more) a) (k .on) (k .worth ∙ w .0)
   putVal-holds sc s d t (held k o) v a w = putWire-holds sc s d k v a (w .0) (w .1)
 
   -- one turn of a loop, and all of them
@@ -294,14 +294,14 @@ module _ (S : ℕ → Bool) (given : Given) (σ : ℕ → ℕ → Sort) where
       let v = holds-more sc (stepped s) (m .st) d (h .more) u in
       let g = expr-agrees S given σ sc (d .cells) e (f .3) (m .st) (v .cells) in
       let below = index-below S given σ sc (d .cells) (stepped s) (u .cells) x (n .is) (n .found) i (f .1 .below) in
-      rw (← j) (store-holds sc (m .st) d x (numberOf (m .val)) (n .is) (S (rowE e)) (runE S e (m .st)) (direct given e (d .cells)) v (n .found) (n .uncounted)
-      (below-size (n .is) (numberOf (m .val)) (rw j below)) (rw (n .type) at g) (n .label))
+      rw (← j) (store-holds sc (m .st) d x (numberIn (m .val)) (n .is) (S (rowE e)) (runE S e (m .st)) (direct given e (d .cells)) v (n .found) (n .uncounted)
+      (below-size (n .is) (numberIn (m .val)) (rw j below)) (rw (n .type) at g) (n .label))
   stmt-agrees (branch r g p q) sc f s d a =
       let u = stepped-holds sc s d a in
       let m = runE S g (stepped s) in
       let h = expr-agrees S given σ sc (d .cells) g (f .2) (stepped s) (u .cells) in
       let n = number-worth given σ (m .st) (typeE sc g) (m .val) (direct given g (d .cells)) (λ t. f .0 (h .label t)) (h .worth) in
-      rw (← n) (branch-holds (numberOf (m .val)) p q sc (f .3) (f .4) (stmt-agrees p sc (f .3)) (stmt-agrees q sc (f .4)) (m .st) d (holds-more sc (stepped s) (m .st) d (h .more) u))
+      rw (← n) (branch-holds (numberIn (m .val)) p q sc (f .3) (f .4) (stmt-agrees p sc (f .3)) (stmt-agrees q sc (f .4)) (m .st) d (holds-more sc (stepped s) (m .st) d (h .more) u))
   stmt-agrees (out r e) sc f s d a =
       let u = stepped-holds sc s d a in
       let m = runE S e (stepped s) in

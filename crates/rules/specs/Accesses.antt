@@ -1,13 +1,14 @@
--- The array accesses of a direct reading and of a run: the index of each, and the array's length (S_AREAD, SC_AWRITE: below it).
+-- Demand 2, "no array access passes an end": the array accesses of a direct reading (SE_AREAD, SC_AWRITE) and of a run (EE_AREAD,
+-- EC_AWRITE), the index of each and the array's length, which those rules want it below.
 use Prim.Native.Nat.{ℕ, zero, suc, _-_, _<_}
 use mathlib.Core.Bool.{Bool}
 use mathlib.Core.List.{List, [], _∷_, _++_}
-use Rattle.rules.specs.Rows.{uint}
+use Rattle.rules.specs.Rows.{Row, Name, uint}
 use Rattle.rules.specs.Tree.{Expr, number, truth, name, two, choose, element, input}
 use Rattle.rules.specs.Tree.{Stmt, declare, assign, loop, write, branch, out, then}
 use Rattle.rules.specs.Scope.{Scope, lookup, lengthFound, inLoop, after}
 use Rattle.rules.specs.Sorts.{arm}
-use Rattle.rules.specs.Run.{Val, known, held, State, numberOf, put, stepped, runE, run}
+use Rattle.rules.specs.Run.{Val, known, held, State, numberIn, put, stepped, runE, run}
 use Rattle.rules.specs.Plain.{Given}
 use Rattle.rules.specs.Direct.{direct, Now, keep, follow}
 
@@ -16,7 +17,7 @@ pub record Access : Type 0 where
   pub length : ℕ
 
 -- an access of name x in a scope
-abbrev pub access : Scope → ℕ → ℕ → Access
+abbrev pub access : Scope → Name → ℕ → Access
 access sc x i = record { index = i; length = lengthFound (lookup sc x) }
 
 -- every access lies below its array's length
@@ -57,17 +58,17 @@ abbrev pub byGuard : Val → List Access → List Access → List Access
 byGuard (known t n) xs ys = arm n xs ys
 byGuard (held w m) xs ys = xs ++ ys
 
-unfoldable pub runAccessesE : (ℕ → Bool) → Scope → State → Expr → List Access
+unfoldable pub runAccessesE : (Row → Bool) → Scope → State → Expr → List Access
 runAccessesE S sc s (number r n) = []
 runAccessesE S sc s (truth r n) = []
 runAccessesE S sc s (name r x) = []
 runAccessesE S sc s (two r o a b) = runAccessesE S sc s a ++ runAccessesE S sc s b
 runAccessesE S sc s (choose r g a b) =
     runAccessesE S sc s g ++ byGuard (runE S g s .val) (runAccessesE S sc s a) (runAccessesE S sc s b)
-runAccessesE S sc s (element r x i) = runAccessesE S sc s i ++ access sc x (numberOf (runE S i s .val)) ∷ []
+runAccessesE S sc s (element r x i) = runAccessesE S sc s i ++ access sc x (numberIn (runE S i s .val)) ∷ []
 runAccessesE S sc s (input r t d n) = []
 
-unfoldable pub runAccesses : (ℕ → Bool) → Scope → Stmt → State → List Access
+unfoldable pub runAccesses : (Row → Bool) → Scope → Stmt → State → List Access
 runAccesses S sc (declare r x t n) s = []
 runAccesses S sc (assign r x e) s = runAccessesE S sc (stepped s) e
 runAccesses S sc (loop r x b f l) s =
@@ -75,9 +76,9 @@ runAccesses S sc (loop r x b f l) s =
     (λ i u. run S b (put x 0 (known uint i) (stepped u))) (suc l - f) f (stepped s)
 runAccesses S sc (write r x i e) s =
     let p = runE S i (stepped s) in
-    runAccessesE S sc (stepped s) i ++ (runAccessesE S sc (p .st) e ++ access sc x (numberOf (p .val)) ∷ [])
+    runAccessesE S sc (stepped s) i ++ (runAccessesE S sc (p .st) e ++ access sc x (numberIn (p .val)) ∷ [])
 runAccesses S sc (branch r g a b) s =
     let p = runE S g (stepped s) in
-    runAccessesE S sc (stepped s) g ++ arm (numberOf (p .val)) (runAccesses S sc a) (runAccesses S sc b) (p .st)
+    runAccessesE S sc (stepped s) g ++ arm (numberIn (p .val)) (runAccesses S sc a) (runAccesses S sc b) (p .st)
 runAccesses S sc (out r e) s = runAccessesE S sc (stepped s) e
 runAccesses S sc (then r a b) s = runAccesses S sc a s ++ runAccesses S (after a sc) b (run S a s)

@@ -1,7 +1,8 @@
--- What each operation answers, and what it leaves in every lent memory, for any bytes whatever. The places that fail each
--- check come first; a check's number stands where the checks are put in their order.
-use Prim.Native.Nat.{ℕ, zero, suc, _+_, _*_}
-use mathlib.Core.Bool.{Bool, true, false, _&&_}
+-- Document 01, "Order of refusals": what each operation answers, and what it leaves in every lent memory, for any bytes whatever. The
+-- places that fail each check come first; a check's number stands where the checks are put in their order.
+use Prim.Native.Nat.{ℕ, _+_, _*_}
+use mathlib.Core.Path.{_≡_}
+use mathlib.Core.Bool.{Bool, _&&_}
 use mathlib.Core.Option.{Option, none, some}
 use mathlib.Core.List.{List, [], _∷_, _++_, reverse}
 use lib.ListN.{length, replicate}
@@ -15,7 +16,7 @@ use Rattle.rules.specs.Names.{check5}
 use Rattle.rules.specs.Types.{check6}
 use Rattle.rules.specs.Labels.{has, secrets, check7}
 use Rattle.rules.specs.Counts.{check8}
-use Rattle.rules.specs.Sorts.{holds}
+use Rattle.rules.specs.Sorts.{fitsSort}
 use Rattle.rules.specs.Gates.{Gate, makes, gateAt, gateCount, gatesTo, gateWords, circuitWords, wires, check21, circuitFits, entryTest}
 use Rattle.rules.specs.Run.{State, run, start}
 use Rattle.rules.specs.Plain.{Given, ofDesk, inputs}
@@ -73,11 +74,11 @@ failing3 table = failingBelow (usedOnce (words table) (rowsOf table)) (rowsOf ta
 unfoldable pub failing4 : List ℕ → List ℕ
 failing4 table = failing check4 (sitesOf table)
 
--- names
+-- a name used but not in scope; declared or looped while in scope; a loop's name assigned or written
 unfoldable pub failing5 : List ℕ → List ℕ
 failing5 table = failing check5 (sitesOf table)
 
--- types
+-- wrong type; an array used whole; an input read at the other type by a lower row
 unfoldable pub failing6 : List ℕ → List ℕ
 failing6 table = failing (check6 (words table)) (sitesOf table)
 
@@ -122,6 +123,7 @@ compile table circuit =
     unless 11 (failing11 s circuit) λ u.
     accepted s
 
+-- number, place and counts, and the circuit memory afterwards
 pub record Compiled : Type 0 where
   pub number : ℕ
   pub place : ℕ
@@ -159,17 +161,22 @@ outCount (g ∷ gs) = outMade (makes g) + outCount gs
 unfoldable pub failing20 : List ℕ → List ℕ
 failing20 circuit = fault (circuitFits circuit) 0
 
--- a gate breaks the rules
+-- a gate breaks the rules; of a circuit's words
 unfoldable pub failing21 : List ℕ → List ℕ
-failing21 circuit = failingBelow (check21 (words circuit)) (gateCount (words circuit))
+failing21 c = failingBelow (check21 c) (gateCount c)
 
--- an input read lies past the end of that desk's inputs; of a circuit's words and the desks' words
+-- an input read lies past the end of that desk's inputs; of the words of a circuit and of both desks
 unfoldable pub failing22 : List ℕ → List ℕ → List ℕ → List ℕ
 failing22 c one two = failingBelow (λ i. entryTest (λ d n m. ltb n (length (ofDesk one two d))) (gateAt c i)) (gateCount c)
 
 -- a bool input read is neither 0 nor 1
 unfoldable pub failing23 : List ℕ → List ℕ → List ℕ → List ℕ
-failing23 c one two = failingBelow (λ i. entryTest (λ d n m. holds m (inputs one two d n)) (gateAt c i)) (gateCount c)
+failing23 c one two = failingBelow (λ i. entryTest (λ d n m. fitsSort m (inputs one two d n)) (gateAt c i)) (gateCount c)
+
+-- Fit inputs are those with neither 22 nor 23.
+pub record FitInputs (circuit inputs1 inputs2 : List ℕ) : Type 0 where
+  pub no-22 : failing22 (words circuit) (words inputs1) (words inputs2) ≡ []
+  pub no-23 : failing23 (words circuit) (words inputs1) (words inputs2) ≡ []
 
 -- tape has fewer words than the circuit has wires
 unfoldable pub failing24 : List Gate → List ℕ → List ℕ
@@ -209,13 +216,14 @@ pub record Lent : Type 0 where
 unfoldable pub evaluate : Lent → Verdict Evaluation
 evaluate l =
     unless 20 (failing20 (l .circuit)) λ u.
-    unless 21 (failing21 (l .circuit)) λ u.
+    unless 21 (failing21 (words (l .circuit))) λ u.
     unless 22 (failing22 (words (l .circuit)) (words (l .inputs1)) (words (l .inputs2))) λ u.
     unless 23 (failing23 (words (l .circuit)) (words (l .inputs1)) (words (l .inputs2))) λ u.
     unless 24 (failing24 (gatesOf (l .circuit)) (l .tape)) λ u.
     unless 25 (failing25 (gatesOf (l .circuit)) (l .shares1) (l .shares2) (l .outputs)) λ u.
     accepted (evaluation (gatesOf (l .circuit)) (inputs (words (l .inputs1)) (words (l .inputs2))) (words (l .tape)))
 
+-- number, place and counts
 pub record Evaluated : Type 0 where
   pub number : ℕ
   pub place : ℕ
@@ -244,10 +252,11 @@ leavesOuts l = leaves (evaluate l) (λ e. e .outs) (l .outputs)
 
 -- Direct reading: as compile and then evaluate would with enough memory, 25 only for outputs; what it writes is read off the
 -- statements.
-pub record Figures : Type 0 where
+pub record DirectReading : Type 0 where
   pub wires : ℕ
   pub outs : List ℕ
 
+-- the outputs of the statements, in order
 unfoldable pub readOuts : List ℕ → Given → List ℕ
 readOuts table given = reverse (follow given (programOf table) begin .outs)
 
@@ -255,7 +264,7 @@ readOuts table given = reverse (follow given (programOf table) begin .outs)
 unfoldable pub failingDirect : State → List ℕ → List ℕ
 failingDirect s outputs = fault (leb (outCount (s .gates)) (length (words outputs))) 0
 
-unfoldable pub readDirectly : List ℕ → List ℕ → List ℕ → List ℕ → Verdict Figures
+unfoldable pub readDirectly : List ℕ → List ℕ → List ℕ → List ℕ → Verdict DirectReading
 readDirectly table inputs1 inputs2 outputs =
     andThen (built table) λ s.
     unless 22 (failing22 (circuitWords (s .gates)) (words inputs1) (words inputs2)) λ u.
@@ -276,16 +285,19 @@ directAnswer table inputs1 inputs2 outputs =
 unfoldable pub directLeaves : List ℕ → List ℕ → List ℕ → List ℕ → List ℕ
 directLeaves table inputs1 inputs2 outputs = leaves (readDirectly table inputs1 inputs2 outputs) (λ f. f .outs) outputs
 
--- Text. Accepted with the words of its lines.
+-- Text. It is empty or over 36,864 bytes.
 unfoldable pub failingText : List ℕ → List ℕ
 failingText text = fault (textFits text) 0
 
+-- a line is not as it should be
 unfoldable pub failing12 : List ℕ → List ℕ
 failing12 text = failingBelow (check12 text) (lineCount text)
 
+-- table memory lent is too short
 unfoldable pub failing13 : List ℕ → List ℕ → List ℕ
 failing13 text table = fault (leb (4 * lineCount text) (length (words table))) 0
 
+-- accepted with the words of its lines
 unfoldable pub readText : List ℕ → List ℕ → Verdict (List ℕ)
 readText text table =
     unless 1 (failingText text) λ u.

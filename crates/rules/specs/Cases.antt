@@ -1,6 +1,6 @@
 -- Both sides of each line: the cases of document 01 marked P, as one list under one statement, of tables' bytes. After them
 -- its likely slips, under the same statement.
-use Prim.Native.Nat.{ℕ, _+_, _*_, _%_}
+use Prim.Native.Nat.{ℕ, _+_, _*_, _%_, _^_}
 use mathlib.Core.Path.{_≡_}
 use mathlib.Core.List.{List, [], _∷_}
 use lib.Bits.{bitXor}
@@ -9,11 +9,12 @@ use Rattle.words.specs.Words.{bytesOf}
 use Rattle.rules.specs.Plain.{inputs}
 use Rattle.rules.specs.Shares.{Tape, partner}
 use Rattle.rules.specs.Answers.{Compiled, compileAnswer, compileLeaves, gatesOf, Lent, Evaluated, evaluateAnswer}
-use Rattle.rules.specs.Answers.{leavesOne, leavesTwo, leavesOuts, directAnswer, directLeaves}
+use Rattle.rules.specs.Answers.{leavesOne, leavesTwo, leavesOuts, directAnswer, directLeaves, printed}
+use Rattle.rules.specs.Ascii.{ascii}
 
 -- An evaluation, in words: a table and its circuit, the desks' inputs and the tape; and what it is to give, the answer, the
 -- desks' shares and the outputs.
-pub record Evaluating : Type 0 where
+pub record Example : Type 0 where
   pub table : List ℕ
   pub circuit : List ℕ
   pub inputs1 : List ℕ
@@ -39,22 +40,23 @@ pub record Differing : Type 0 where
   pub inputs2 : List ℕ
   pub changes : List Change
 
--- compiles: a table, and what compile answers. spares: a table, the bytes lent for its circuit, and what compile answers; it
+-- prints: a table's text, and what the printing program prints. compiles: a table, and what compile answers. spares: a table, the bytes lent for its circuit, and what compile answers; it
 -- leaves those bytes as they are. evaluates: an evaluation. pairs: two of them, which look the same to desk two. differ: how
 -- tapes differ from their partners
 pub data Case : Type 0 where
   compiles : List ℕ → Compiled → Case
   spares : List ℕ → List ℕ → Compiled → Case
-  evaluates : Evaluating → Case
-  pairs : Evaluating → Evaluating → Case
+  evaluates : Example → Case
+  pairs : Example → Example → Case
   differ : Differing → Case
+  prints : List ℕ → List ℕ → Case
 
 -- memory for n words and no more
 abbrev pub room : ℕ → List ℕ
 room n = replicate (4 * n) 0
 
 -- an evaluation's arguments in bytes, with memory for just the words that it gives
-abbrev pub lent : Evaluating → Lent
+abbrev pub lent : Example → Lent
 lent e = record {
   circuit = bytesOf (e .circuit);
   inputs1 = bytesOf (e .inputs1);
@@ -66,7 +68,7 @@ lent e = record {
 }
 
 -- the table compiles to the circuit, the circuit evaluates to what is to be given, and so does the table, read directly
-pub record Gives (e : Evaluating) : Type 0 where
+pub record Gives (e : Example) : Type 0 where
   pub compiled : compileLeaves (bytesOf (e .table)) (room (length (e .circuit))) ≡ bytesOf (e .circuit)
   pub answered : evaluateAnswer (lent e) ≡ e .answer
   pub desk-one : leavesOne (lent e) ≡ bytesOf (e .one)
@@ -76,7 +78,7 @@ pub record Gives (e : Evaluating) : Type 0 where
   pub read-out : directLeaves (bytesOf (e .table)) (lent e .inputs1) (lent e .inputs2) (lent e .outputs) ≡ bytesOf (e .outs)
 
 -- one circuit and one set of desk two's inputs; the second tape is the first one's partner; desk two's shares are the same
-pub record Pairs (e f : Evaluating) : Type 0 where
+pub record Pairs (e f : Example) : Type 0 where
   pub first : Gives e
   pub second : Gives f
   pub one-circuit : e .circuit ≡ f .circuit
@@ -87,7 +89,7 @@ pub record Pairs (e f : Evaluating) : Type 0 where
 -- a word with a change: wrapped at 2^32 where something is added
 abbrev pub changed : Change → ℕ → ℕ
 changed unchanged t = t
-changed (plus n) t = (t + n) % 4294967296
+changed (plus n) t = (t + n) % 2 ^ 32
 changed (xor n) t = bitXor t n
 
 -- a tape with a change to each word
@@ -97,7 +99,7 @@ allChanged (c ∷ cs) [] = []
 allChanged (c ∷ cs) (t ∷ ts) = changed c t ∷ allChanged cs ts
 
 -- the table compiles to the circuit, and the partner of any of its tapes differs as said
-pub record Differs (d : Differing) : Type 0 where
+pub record DiffersBy (d : Differing) : Type 0 where
   pub compiled : compileLeaves (bytesOf (d .table)) (room (length (d .circuit))) ≡ bytesOf (d .circuit)
   pub partnered : (tape : List ℕ) → Tape (gatesOf (bytesOf (d .circuit))) tape
       → partner (gatesOf (bytesOf (d .circuit))) (inputs (d .inputs1) (d .inputs2)) (inputs (d .others1) (d .inputs2)) tape
@@ -109,7 +111,8 @@ Holds (compiles table c) = compileAnswer (bytesOf table) (room (5 * c .gates)) �
 Holds (spares table circuit c) = (compileAnswer (bytesOf table) circuit ≡ c) × (compileLeaves (bytesOf table) circuit ≡ circuit)
 Holds (evaluates e) = Gives e
 Holds (pairs e f) = Pairs e f
-Holds (differ d) = Differs d
+Holds (differ d) = DiffersBy d
+Holds (prints text listing) = printed text ≡ listing
 
 -- the one statement of a list of cases
 abbrev pub AllHold : List Case → Type 0
@@ -252,7 +255,7 @@ greaterCircuit =
     ∷ []
 
 -- The evaluations of the cases. Sum: inputs 7 and 5, tape 10, 20, 30.
-unfoldable pub sumOf7And5 : Evaluating
+unfoldable pub sumOf7And5 : Example
 sumOf7And5 = record {
   table = sum;
   circuit = sumCircuit;
@@ -266,7 +269,7 @@ sumOf7And5 = record {
 }
 
 -- Greater: 7 against 5.
-unfoldable pub greaterOf7And5 : Evaluating
+unfoldable pub greaterOf7And5 : Example
 greaterOf7And5 = record {
   table = greater;
   circuit = greaterCircuit;
@@ -280,7 +283,7 @@ greaterOf7And5 = record {
 }
 
 -- Greater: 9 against 5, with the partner tape; desk two's shares are as with 7.
-unfoldable pub greaterOf9And5 : Evaluating
+unfoldable pub greaterOf9And5 : Example
 greaterOf9And5 = record {
   table = greater;
   circuit = greaterCircuit;
@@ -304,6 +307,20 @@ greaterOf7Or9 = record {
   changes = plus 2 ∷ xor 14 ∷ unchanged ∷ unchanged ∷ unchanged ∷ [];
 }
 
+-- Case sum of the section "Text": a table's text, and its listing.
+unfoldable pub sumText : List ℕ
+sumText = ascii "00000008 00000000 00000001 00000000\n00000008 00000000 00000002 00000000\n00000004 00000000 00000001 00000000\n00000015 00000002 00000000 00000000\n"
+
+unfoldable pub sumListing : List ℕ
+sumListing = ascii "00000000 00000000 00000004\n00000006 00000001 00000000 00000001 00000000\n00000006 00000002 00000000 00000001 00000001\n00000001 00000000 00000001 00000002 00000000\n00000007 00000002 00000000 00000000 00000000\n"
+
+-- The same text with its last LF left out, and what is printed: 12 at line 3.
+unfoldable pub openText : List ℕ
+openText = ascii "00000008 00000000 00000001 00000000\n00000008 00000000 00000002 00000000\n00000004 00000000 00000001 00000000\n00000015 00000002 00000000 00000000"
+
+unfoldable pub openListing : List ℕ
+openListing = ascii "0000000c 00000003 00000000\n"
+
 -- The cases marked P.
 unfoldable pub cases : List Case
 cases =
@@ -311,6 +328,9 @@ cases =
     compiles sum (compiledWith 4 3 1)
     -- sum: inputs 7 and 5, tape 10, 20, 30: desk one 10, 20, 30; desk two 4294967293, 4294967281, 4294967278; output 12
     ∷ evaluates sumOf7And5
+    -- sum, printed (section "Text"; and where the last LF is missing)
+    ∷ prints sumText sumListing
+    ∷ prints openText openListing
     -- no words: 1
     ∷ compiles [] (refusedWith 1 0)
     -- array of 4, loop 0 to 3, index the loop's name: accepted (of a write, then of a read; so below)
@@ -443,6 +463,6 @@ slips =
     ∷ compiles condTrue (compiledWith 2 1 1)
     -- or one arm of a secret one: three inputs, two converts, the mux and the out
     ∷ compiles condInput (compiledWith 7 6 1)
-    -- writing gates before 10 or 11 is known: sum needs 20 words, and of their bytes the last is missing
+    -- writing gates before 11 is known: sum needs 20 words, and of their bytes the last is missing
     ∷ spares sum (replicate 79 255) (refusedWith 11 0)
     ∷ []

@@ -1,11 +1,12 @@
--- Names, labels, indexes: the count of an expression, and check 8. An index must count below the array's length.
+-- Document 01, "Names, labels, indexes": the count of an expression. With "Order of refusals", check 8: an index must count below the
+-- array's length. This stands in for the open condition e < n of S_AREAD and C_AWRITE.
 use Prim.Native.Nat.{ℕ, _+_, min, max}
 use mathlib.Core.Bool.{Bool, true}
 use mathlib.Core.Option.{Option, none, some}
 use lib.Dec.{ltb}
 use Rattle.rules.specs.Rows.{Op, add, gt}
 use Rattle.rules.specs.Tree.{Expr, number, truth, name, two, choose, element, input}
-use Rattle.rules.specs.Tree.{Stmt, declare, assign, loop, write, branch, out, then}
+use Rattle.rules.specs.Tree.{declare, assign, loop, write, branch, out, then}
 use Rattle.rules.specs.Scope.{Known, declared, looped, Scope, lookup, lengthFound}
 use Rattle.rules.specs.Sites.{Node, ofE, ofS, Site}
 
@@ -33,6 +34,7 @@ count sc (choose r g a b) = max (count sc a) (count sc b)
 count sc (element r x i) = 4294967295
 count sc (input r t d n) = 4294967295
 
+-- the rule at each kind of row
 unfoldable pub counted : Scope → Node → Bool
 counted sc (ofE (number r n)) = true
 counted sc (ofE (truth r n)) = true

@@ -1,7 +1,8 @@
--- The statements read directly on the inputs: Figures 3 and 4. `given d n` is input n of desk d.
+-- The statements read directly on the inputs: Figures 3 and 4, with document 01's + that wraps. `given d n` is input n of desk d.
 use Prim.Native.Nat.{ℕ, zero, suc, _+_, _*_, _-_}
 use mathlib.Core.List.{List, [], _∷_}
 use lib.ListN.{getD, set, replicate}
+use Rattle.rules.specs.Rows.{Name}
 use Rattle.rules.specs.Tree.{Expr, number, truth, name, two, choose, element, input}
 use Rattle.rules.specs.Tree.{Stmt, declare, assign, loop, write, branch, out, then}
 use Rattle.rules.specs.Scope.{elements}
@@ -9,7 +10,7 @@ use Rattle.rules.specs.Sorts.{applied, arm}
 use Rattle.rules.specs.Run.{turns}
 use Rattle.rules.specs.Plain.{Given}
 
--- Figure 3: an expression, over cells, 64 for each name
+-- Figure 3: an expression, over cells, 64 for each name. Of a cond only the chosen arm counts
 unfoldable pub direct : Given → Expr → List ℕ → ℕ
 direct given (number r n) c = n
 direct given (truth r n) c = n
@@ -24,11 +25,12 @@ pub record Now : Type 0 where
   pub cells : List ℕ
   pub outs : List ℕ
 
-unfoldable pub keep : ℕ → ℕ → ℕ → Now → Now
+-- element i of name x is v
+unfoldable pub keep : Name → ℕ → ℕ → Now → Now
 keep x i v s = record { cells = set (s .cells) (64 * x + i) v; outs = s .outs }
 
 -- n elements from element i on, at 0 or false
-unfoldable pub blank : ℕ → ℕ → ℕ → Now → Now
+unfoldable pub blank : Name → ℕ → ℕ → Now → Now
 blank x i zero s = s
 blank x i (suc n) s = blank x (suc i) n (keep x i 0 s)
 
@@ -42,5 +44,6 @@ follow given (branch r g a b) s = arm (direct given g (s .cells)) (follow given 
 follow given (out r e) s = record { cells = s .cells; outs = direct given e (s .cells) ∷ s .outs }
 follow given (then r a b) s = follow given b (follow given a s)
 
+-- before the first statement
 unfoldable pub begin : Now
 begin = record { cells = replicate 4096 0; outs = [] }

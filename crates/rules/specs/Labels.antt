@@ -1,53 +1,54 @@
--- Names, labels, indexes: which rows are secret. Inputs are; and a rule reads "if row a is secret, so is row b".
--- Of all sets of rows with the inputs and these rules, the secret rows are the smallest. Check 7.
+-- Document 01, "Names, labels, indexes": which rows are secret. Inputs are; and a rule reads "if row a is secret, so is row b". Of all
+-- sets of rows with the inputs and these rules, the secret rows are the smallest. With "Order of refusals", check 7.
 use Prim.Native.Nat.{ℕ, zero, suc}
 use mathlib.Core.Bool.{Bool, true, false, not, _||_}
 use mathlib.Core.Option.{Option, none, some}
 use mathlib.Core.List.{List, [], _∷_, _++_}
 use lib.Dec.{T, eqb}
-use Rattle.rules.specs.Tree.{Expr, number, truth, name, two, choose, element, input, rowE}
-use Rattle.rules.specs.Tree.{Stmt, declare, assign, loop, write, branch, out, then}
+use Rattle.rules.specs.Rows.{Row}
+use Rattle.rules.specs.Tree.{number, truth, name, two, choose, element, input, rowE}
+use Rattle.rules.specs.Tree.{declare, assign, loop, write, branch, out, then}
 use Rattle.rules.specs.Scope.{Known, declared, looped, Scope, lookup}
 use Rattle.rules.specs.Sites.{Node, ofE, ofS, Site}
 
 pub record Rule : Type 0 where
-  pub from : ℕ
-  pub to : ℕ
+  pub from : Row
+  pub to : Row
 
-abbrev pub rule : ℕ → ℕ → Rule
+abbrev pub rule : Row → Row → Rule
 rule a b = record { from = a; to = b }
 
 -- row r reads a name: secret as the name's declaration is; a loop's name is public
-unfoldable pub reads : Option Known → ℕ → List Rule
-reads none r = []
-reads (some (declared d t n)) r = rule d r ∷ []
-reads (some (looped d l)) r = []
+unfoldable pub whenRead : Option Known → Row → List Rule
+whenRead none r = []
+whenRead (some (declared d t n)) r = rule d r ∷ []
+whenRead (some (looped d l)) r = []
 
 -- the value at row v is assigned or written to a name: its declaration is secret if the value is
-unfoldable pub stores : ℕ → Option Known → List Rule
-stores v none = []
-stores v (some (declared d t n)) = rule v d ∷ []
-stores v (some (looped d l)) = []
+unfoldable pub whenStored : Row → Option Known → List Rule
+whenStored v none = []
+whenStored v (some (declared d t n)) = rule v d ∷ []
+whenStored v (some (looped d l)) = []
 
 -- the rules of one row: +, > and cond are secret with any secret part
 unfoldable pub rulesOf : Scope → Node → List Rule
 rulesOf sc (ofE (number r n)) = []
 rulesOf sc (ofE (truth r n)) = []
-rulesOf sc (ofE (name r x)) = reads (lookup sc x) r
+rulesOf sc (ofE (name r x)) = whenRead (lookup sc x) r
 rulesOf sc (ofE (two r o a b)) = rule (rowE a) r ∷ rule (rowE b) r ∷ []
 rulesOf sc (ofE (choose r g a b)) = rule (rowE g) r ∷ rule (rowE a) r ∷ rule (rowE b) r ∷ []
-rulesOf sc (ofE (element r x i)) = reads (lookup sc x) r
+rulesOf sc (ofE (element r x i)) = whenRead (lookup sc x) r
 rulesOf sc (ofE (input r t d n)) = []
 rulesOf sc (ofS (declare r x t n)) = []
-rulesOf sc (ofS (assign r x e)) = stores (rowE e) (lookup sc x)
+rulesOf sc (ofS (assign r x e)) = whenStored (rowE e) (lookup sc x)
 rulesOf sc (ofS (loop r x b f l)) = []
-rulesOf sc (ofS (write r x i e)) = stores (rowE e) (lookup sc x)
+rulesOf sc (ofS (write r x i e)) = whenStored (rowE e) (lookup sc x)
 rulesOf sc (ofS (branch r g a b)) = []
 rulesOf sc (ofS (out r e)) = []
 rulesOf sc (ofS (then r a b)) = []
 
 -- the row of an input
-unfoldable pub inputsOf : Node → List ℕ
+unfoldable pub inputsOf : Node → List Row
 inputsOf (ofE (number r n)) = []
 inputsOf (ofE (truth r n)) = []
 inputsOf (ofE (name r x)) = []
@@ -57,11 +58,12 @@ inputsOf (ofE (element r x i)) = []
 inputsOf (ofE (input r t d n)) = r ∷ []
 inputsOf (ofS p) = []
 
+-- the rules and the inputs of a whole program
 unfoldable pub allRules : List Site → List Rule
 allRules [] = []
 allRules (s ∷ ss) = rulesOf (s .scope) (s .node) ++ allRules ss
 
-unfoldable pub allInputs : List Site → List ℕ
+unfoldable pub allInputs : List Site → List Row
 allInputs [] = []
 allInputs (s ∷ ss) = inputsOf (s .node) ++ allInputs ss
 
@@ -82,7 +84,8 @@ pub record Closed (ins : List ℕ) (rs : List Rule) (S : ℕ → Bool) : Type 0 
 unfoldable pub Secret : List Site → ℕ → Type 0
 Secret ss r = (S : ℕ → Bool) → Closed (allInputs ss) (allRules ss) S → T (S r)
 
--- The same, computed: a row is in a list; what the rules add to a list; as many passes as there are rows.
+-- The same, computed (that it is the same is a theorem): a row is in a list; what the rules add to a list; and as many passes as
+-- there are rows.
 unfoldable pub has : List ℕ → ℕ → Bool
 has [] r = false
 has (x ∷ xs) r = eqb x r || has xs r

@@ -1,14 +1,14 @@
--- Check 5: a name used but not in scope; declared or looped while in scope; a loop's name assigned or written as an array.
+-- Document 01, "Order of refusals", check 5: a name used but not in scope; declared or looped while in scope; a loop's name assigned or written as an array.
 -- A declaration or a loop that fails still binds its name (Scope, Sites: they bind whatever this check says).
-use Prim.Native.Nat.{ℕ}
 use mathlib.Core.Bool.{Bool, true, false, not}
 use mathlib.Core.Option.{Option, none, some}
-use Rattle.rules.specs.Tree.{Expr, number, truth, name, two, choose, element, input}
-use Rattle.rules.specs.Tree.{Stmt, declare, assign, loop, write, branch, out, then}
+use Rattle.rules.specs.Tree.{number, truth, name, two, choose, element, input}
+use Rattle.rules.specs.Tree.{declare, assign, loop, write, branch, out, then}
 use Rattle.rules.specs.Scope.{Known, declared, looped, lookup}
 use Rattle.rules.specs.Sites.{Node, ofE, ofS, Site}
 use Rattle.rules.specs.Scope.{Scope}
 
+-- a name is in scope; it is in scope by a declaration, not as a loop's name
 abbrev pub isFound : Option Known → Bool
 isFound none = false
 isFound (some b) = true
@@ -18,6 +18,7 @@ isDeclared none = false
 isDeclared (some (declared r t n)) = true
 isDeclared (some (looped r l)) = false
 
+-- the rule at each kind of row
 unfoldable pub named : Scope → Node → Bool
 named sc (ofE (number r n)) = true
 named sc (ofE (truth r n)) = true

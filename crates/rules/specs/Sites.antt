@@ -1,19 +1,21 @@
--- A program as the list of its rows, each with the scope and the depth that it stands at. A check is a test of such a site.
--- Check 4.
-use Prim.Native.Nat.{ℕ, zero, suc}
+-- Document 01, "Rows" (depth) and "Names, labels, indexes" (scope): a program as the list of its rows, each with the depth and the
+-- scope that it stands at. Checks 4 to 8 are tests of such a site. Check 4.
+use Prim.Native.Nat.{ℕ, suc}
 use mathlib.Core.Bool.{Bool}
 use mathlib.Core.List.{List, [], _∷_, _++_}
 use lib.Dec.{leb}
 use Rattle.rules.specs.Places.{fault}
+use Rattle.rules.specs.Rows.{Row}
 use Rattle.rules.specs.Tree.{Expr, number, truth, name, two, choose, element, input, rowE}
 use Rattle.rules.specs.Tree.{Stmt, declare, assign, loop, write, branch, out, then, rowS}
 use Rattle.rules.specs.Scope.{Scope, inLoop, after}
 
+-- what stands at a row
 pub data Node : Type 0 where
   ofE : Expr → Node
   ofS : Stmt → Node
 
-unfoldable pub rowN : Node → ℕ
+unfoldable pub rowN : Node → Row
 rowN (ofE e) = rowE e
 rowN (ofS p) = rowS p
 
@@ -47,7 +49,7 @@ sites k sc (out r e) = site k sc (ofS (out r e)) ∷ sitesE (suc k) sc e
 sites k sc (then r a b) = site k sc (ofS (then r a b)) ∷ sites (suc k) sc a ++ sites (suc k) (after a sc) b
 
 -- the rows that fail a test
-unfoldable pub failing : (Site → Bool) → List Site → List ℕ
+unfoldable pub failing : (Site → Bool) → List Site → List Row
 failing ok [] = []
 failing ok (s ∷ ss) = fault (ok s) (rowN (s .node)) ++ failing ok ss
 

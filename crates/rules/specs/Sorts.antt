@@ -1,8 +1,9 @@
--- Sorts of wires: 1 arithmetic, 2 a uint in boolean shares, 3 a bool (one bit). And one line for each two-sided operator.
-use Prim.Native.Nat.{ℕ, zero, suc, _+_, _%_}
+-- Document 01, "Names, labels, indexes" and "From run to circuit": the sorts of wires, 1 arithmetic, 2 a boolean-shared uint, 3 a bool
+-- (boolean, one bit), and which sort is wanted where. And one line for each two-sided operator.
+use Prim.Native.Nat.{ℕ, zero, suc, _+_, _%_, _^_}
 use mathlib.Core.Bool.{Bool, true, false, cond}
 use mathlib.Core.Option.{Option, none, some}
-use mathlib.Core.List.{List, [], _∷_}
+use mathlib.Core.List.{[], _∷_}
 use lib.Dec.{ltb, leb}
 use lib.ListN.{getD}
 use Rattle.rules.specs.Rows.{Ty, uint, bool, Op, add, gt}
@@ -19,6 +20,7 @@ sortNumber bit = 3
 unfoldable pub sortNumbered : ℕ → Option Sort
 sortNumbered n = getD (none ∷ some arithmetic ∷ some boolean ∷ some bit ∷ []) n none
 
+-- two sorts are one
 abbrev pub same : Sort → Sort → Bool
 same arithmetic arithmetic = true
 same arithmetic boolean = false
@@ -30,16 +32,17 @@ same bit arithmetic = false
 same bit boolean = false
 same bit bit = true
 
+-- the type of the values on a wire
 abbrev pub typeAt : Sort → Ty
 typeAt arithmetic = uint
 typeAt boolean = uint
 typeAt bit = bool
 
--- a value may stand on a wire of a sort: a bool is 0 or 1
-abbrev pub holds : Sort → ℕ → Bool
-holds arithmetic v = true
-holds boolean v = true
-holds bit v = leb v 1
+-- a word may stand on a wire of a sort: a bool is 0 or 1
+abbrev pub fitsSort : Sort → ℕ → Bool
+fitsSort arithmetic v = true
+fitsSort boolean v = true
+fitsSort bit v = leb v 1
 
 -- a secret declaration, a public value put out, an input, the chosen arm of a public guard: uint sort 1, bool sort 3
 abbrev pub keptAt : Ty → Sort
@@ -51,7 +54,7 @@ abbrev pub muxedAt : Ty → Sort
 muxedAt uint = boolean
 muxedAt bool = bit
 
--- an operator's sides are brought to this sort where it is secret
+-- a secret operator: the sort that its sides are brought to, and its result's
 abbrev pub sideAt : Op → Sort
 sideAt add = arithmetic
 sideAt gt = boolean
@@ -60,9 +63,9 @@ abbrev pub resultAt : Op → Sort
 resultAt add = arithmetic
 resultAt gt = bit
 
--- what an operator gives: addition wraps at 2^32
+-- what an operator gives: addition wraps at 2^32; > gives 1 or 0
 unfoldable pub applied : Op → ℕ → ℕ → ℕ
-applied add a b = (a + b) % 4294967296
+applied add a b = (a + b) % 2 ^ 32
 applied gt a b = cond (ltb b a) 1 0
 
 -- the first of two where a guard is true, the second where it is false

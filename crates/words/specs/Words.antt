@@ -1,5 +1,5 @@
 -- Words in bytes (document 01, "What the desk needs"): little-endian, four bytes each. The odd last bytes are no word.
-use Prim.Native.Nat.{ℕ, _+_, _*_, _/_, _%_, _<_}
+use Prim.Native.Nat.{ℕ, _+_, _*_, _/_, _%_, _^_, _<_}
 use mathlib.Core.List.{List, [], _∷_, _++_}
 use lib.ListN.{length, set, drop}
 
@@ -32,7 +32,7 @@ over ws b = bytesOf ws ++ drop (4 * length ws) b
 -- every number of a list is a word, or a byte
 abbrev pub AllWords : List ℕ → Type 0
 AllWords [] = Unit {0}
-AllWords (w ∷ ws) = (w < 4294967296) × AllWords ws
+AllWords (w ∷ ws) = (w < 2 ^ 32) × AllWords ws
 
 abbrev pub AllBytes : List ℕ → Type 0
 AllBytes [] = Unit {0}
