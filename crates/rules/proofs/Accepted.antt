@@ -1,5 +1,5 @@
--- What follows when a table is accepted: its labels are the smallest set, its outputs those of the direct reading, its circuit
--- keeps the rules, and no access passes an end.
+-- What follows when a table is accepted: its labels are the smallest set, its outputs those of the direct reading, its
+-- circuit keeps the rules, and no access passes an end.
 use Prim.Native.Nat.{ℕ, _%_, _≤_, _<_}
 use mathlib.Core.Path.{_≡_}
 use mathlib.Core.Logic.{_↔_}

@@ -1,4 +1,5 @@
--- Direct reading answers as compile and then evaluate would with enough circuit, tape and share memory, and puts out the same.
+-- Direct reading answers as compile and then evaluate would with enough circuit, tape and share memory, and puts out the
+-- same.
 use Prim.Native.Nat.{ℕ, _≤_}
 use mathlib.Core.Path.{_≡_, refl, sym, subst, ap, _∙_}
 use mathlib.Core.Bool.{Bool, true, false, _&&_}

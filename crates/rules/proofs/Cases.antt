@@ -28,7 +28,7 @@ use Rattle.rules.specs.Answers.{programOf, rowsOf, sitesOf, secretIn, ru
 use Rattle.rules.specs.Answers.{failing9, failing10, failing11, built, compile, compileAnswer, compileLeaves}
 use Rattle.rules.specs.Answers.{gatesOf, outCount, failing20, failing21, failing22, failing23, failing24, failing25, evaluate}
 use Rattle.rules.specs.Answers.{evaluateAnswer, leavesOne, leavesTwo, leavesOuts, readOuts, failingDirect, readDirectly, directAnswer, directLeaves}
-use Rattle.rules.specs.Ascii.{ascii}
+use Rattle.rules.specs.Ascii.{ascii, lines}
 use Rattle.rules.specs.Text.{isDigit, digitOf, fitsColumn, fitsTo, isLine, hexAt, lineCount, textWords, textFits, check12, digitFor, hexOf, lineOf}
 use Rattle.rules.specs.Answers.{failingText, failing12, failing13, readText, gateLines, printed}
 use Rattle.rules.specs.Cases.{compiles, prints, sumText, sumListing, openText, openListing, Gives, Pairs, DiffersBy, Holds, AllHold, unchanged, plus, xor, allChanged, compiledWith}
@@ -87,7 +87,7 @@ computing = tt
 unfoldable pub printing : Unit {0}
 unfolding
     compiling
-    ascii
+    ascii lines
     isDigit digitOf fitsColumn fitsTo isLine hexAt lineCount textWords textFits check12 digitFor hexOf lineOf
     failingText failing12 failing13 readText gateLines printed
 printing = tt
@@ -222,7 +222,7 @@ million-holds : Holds (compiles million (compiledWith 0 0 1000000))
 unfolding compileAnswer
 million-holds = rw (million-compile, million-gates, million-wires, million-steps)
 
--- the texts of sum
+-- the listings of the texts
 sum-prints : Holds (prints sumText sumListing)
 unfolding printing sumText sumListing
 sum-prints = refl

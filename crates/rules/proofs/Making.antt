@@ -1,5 +1,5 @@
--- Gates are made: what a value is worth, what stays as gates are added, and what each kind of gate gives. A gate keeps the rules of
--- check 21 if those before it do.
+-- Gates are made: what a value is worth, what stays as gates are added, and what each kind of gate gives. A gate keeps the
+-- rules of check 21 if those before it do.
 use Prim.Native.Nat.{ℕ, suc, _≤_, _<_}
 use mathlib.Core.Path.{_≡_, refl, sym, subst, ap, _∙_}
 use mathlib.Core.Logic.{_⊎_, inl, inr}

@@ -66,16 +66,17 @@ module _ (table : List ℕ) {s : State} (yes : built table ≡ accepted s) where
   pub computed-least : (r : ℕ) → T (secretIn table r) ↔ Secret (sitesOf table) r
   computed-least = labels-least table yes
 
-  -- Direct reading answers as compile and then evaluate would with enough circuit, tape and share memory, and puts out the same.
+  -- Direct reading answers as compile and then evaluate would with enough circuit, tape and share memory, and puts out the
+  -- same.
   pub direct-is-evaluate : (i1 i2 tape one two o : List ℕ) → AllBytes i1 → AllBytes i2 → AllBytes tape
       → s .wires ≤ length (words tape) → s .wires ≤ length (words one) → s .wires ≤ length (words two)
       → (directAnswer table i1 i2 o ≡ evaluateAnswer (lentFor s i1 i2 tape one two o))
       × (directLeaves table i1 i2 o ≡ leavesOuts (lentFor s i1 i2 tape one two o))
   direct-is-evaluate = direct-as-evaluate table yes
 
--- 5. Demand 3 of any circuit that keeps the rules and any two fit sets of inputs (specs/Shares, Private): desk one's shares are
--- the same with one tape, the tapes pair one to one, desk two's shares are the same in partners, and shares join to the plain
--- values. And Figure 13 puts out what the plain reading does.
+-- 5. Demand 3 of any circuit that keeps the rules and any two fit sets of inputs (specs/Shares, Private): desk one's shares
+-- are the same with one tape, the tapes pair one to one, desk two's shares are the same in partners, and shares join to the
+-- plain values. And Figure 13 puts out what the plain reading does.
 pub demand-3 : (gs : List Gate) → AllKeep gs → AllWords (circuitWords gs) → {given given' : Given} → Fit gs given → Fit gs given'
     → Private gs given given'
 demand-3 = demand-three

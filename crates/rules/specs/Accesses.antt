@@ -1,5 +1,5 @@
--- Demand 2, "no array access passes an end": the array accesses of a direct reading (SE_AREAD, SC_AWRITE) and of a run (EE_AREAD,
--- EC_AWRITE), the index of each and the array's length, which those rules want it below.
+-- Demand 2, "no array access passes an end": the array accesses of a direct reading (SE_AREAD, SC_AWRITE) and of a run
+-- (EE_AREAD, EC_AWRITE), the index of each and the array's length, which those rules want it below.
 use Prim.Native.Nat.{ℕ, zero, suc, _-_, _<_}
 use mathlib.Core.Bool.{Bool}
 use mathlib.Core.List.{List, [], _∷_, _++_}

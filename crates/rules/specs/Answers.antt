@@ -1,5 +1,5 @@
--- Document 01, "Order of refusals": what each operation answers, and what it leaves in every lent memory, for any bytes whatever. The
--- places that fail each check come first; a check's number stands where the checks are put in their order.
+-- Document 01, "Order of refusals": what each operation answers, and what it leaves in every lent memory, for any bytes
+-- whatever. The places that fail each check come first; a check's number stands where the checks are put in their order.
 use Prim.Native.Nat.{ℕ, _+_, _*_}
 use mathlib.Core.Path.{_≡_}
 use mathlib.Core.Bool.{Bool, _&&_}

@@ -2,7 +2,7 @@
 -- its likely slips, under the same statement.
 use Prim.Native.Nat.{ℕ, _+_, _*_, _%_, _^_}
 use mathlib.Core.Path.{_≡_}
-use mathlib.Core.List.{List, [], _∷_}
+use mathlib.Core.List.{List, [], _∷_, _++_}
 use lib.Bits.{bitXor}
 use lib.ListN.{length, replicate}
 use Rattle.words.specs.Words.{bytesOf}
@@ -10,7 +10,7 @@ use Rattle.rules.specs.Plain.{inputs}
 use Rattle.rules.specs.Shares.{Tape, partner}
 use Rattle.rules.specs.Answers.{Compiled, compileAnswer, compileLeaves, gatesOf, Lent, Evaluated, evaluateAnswer}
 use Rattle.rules.specs.Answers.{leavesOne, leavesTwo, leavesOuts, directAnswer, directLeaves, printed}
-use Rattle.rules.specs.Ascii.{ascii}
+use Rattle.rules.specs.Ascii.{ascii, lines}
 
 -- An evaluation, in words: a table and its circuit, the desks' inputs and the tape; and what it is to give, the answer, the
 -- desks' shares and the outputs.
@@ -40,9 +40,9 @@ pub record Differing : Type 0 where
   pub inputs2 : List ℕ
   pub changes : List Change
 
--- prints: a table's text, and what the printing program prints. compiles: a table, and what compile answers. spares: a table, the bytes lent for its circuit, and what compile answers; it
--- leaves those bytes as they are. evaluates: an evaluation. pairs: two of them, which look the same to desk two. differ: how
--- tapes differ from their partners
+-- prints: a table's text, and what the printing program prints. compiles: a table, and what compile answers. spares: a
+-- table, the bytes lent for its circuit, and what compile answers; it leaves those bytes as they are. evaluates: an
+-- evaluation. pairs: two of them, which look the same to desk two. differ: how tapes differ from their partners
 pub data Case : Type 0 where
   compiles : List ℕ → Compiled → Case
   spares : List ℕ → List ℕ → Compiled → Case
@@ -119,8 +119,8 @@ abbrev pub AllHold : List Case → Type 0
 AllHold [] = Unit {0}
 AllHold (c ∷ cs) = Holds c × AllHold cs
 
--- Answers: accepted by compile with these gates, wires and steps; refused with a number at a place; evaluated with these wires
--- and outputs.
+-- Answers: accepted by compile with these gates, wires and steps; refused with a number at a place; evaluated with these
+-- wires and outputs.
 abbrev pub compiledWith : ℕ → ℕ → ℕ → Compiled
 compiledWith g w s = record { number = 0; place = 0; gates = g; wires = w; steps = s }
 
@@ -309,17 +309,30 @@ greaterOf7Or9 = record {
 
 -- Case sum of the section "Text": a table's text, and its listing.
 unfoldable pub sumText : List ℕ
-sumText = ascii "00000008 00000000 00000001 00000000\n00000008 00000000 00000002 00000000\n00000004 00000000 00000001 00000000\n00000015 00000002 00000000 00000000\n"
+sumText =
+    lines
+    ("00000008 00000000 00000001 00000000"
+    ∷ "00000008 00000000 00000002 00000000"
+    ∷ "00000004 00000000 00000001 00000000"
+    ∷ "00000015 00000002 00000000 00000000"
+    ∷ [])
 
 unfoldable pub sumListing : List ℕ
-sumListing = ascii "00000000 00000000 00000004\n00000006 00000001 00000000 00000001 00000000\n00000006 00000002 00000000 00000001 00000001\n00000001 00000000 00000001 00000002 00000000\n00000007 00000002 00000000 00000000 00000000\n"
+sumListing =
+    lines
+    ("00000000 00000000 00000004"
+    ∷ "00000006 00000001 00000000 00000001 00000000"
+    ∷ "00000006 00000002 00000000 00000001 00000001"
+    ∷ "00000001 00000000 00000001 00000002 00000000"
+    ∷ "00000007 00000002 00000000 00000000 00000000"
+    ∷ [])
 
--- The same text with its last LF left out, and what is printed: 12 at line 3.
+-- A text whose second line has no LF, and what is printed: 12 at line 1.
 unfoldable pub openText : List ℕ
-openText = ascii "00000008 00000000 00000001 00000000\n00000008 00000000 00000002 00000000\n00000004 00000000 00000001 00000000\n00000015 00000002 00000000 00000000"
+openText = lines ("00000002 00000001 00000000 00000000" ∷ []) ++ ascii "00000015 00000000 00000000 00000000"
 
 unfoldable pub openListing : List ℕ
-openListing = ascii "0000000c 00000003 00000000\n"
+openListing = lines ("0000000c 00000001 00000000" ∷ [])
 
 -- The cases marked P.
 unfoldable pub cases : List Case
@@ -328,7 +341,7 @@ cases =
     compiles sum (compiledWith 4 3 1)
     -- sum: inputs 7 and 5, tape 10, 20, 30: desk one 10, 20, 30; desk two 4294967293, 4294967281, 4294967278; output 12
     ∷ evaluates sumOf7And5
-    -- sum, printed (section "Text"; and where the last LF is missing)
+    -- sum, printed (section "Text"); and a text whose last LF is missing
     ∷ prints sumText sumListing
     ∷ prints openText openListing
     -- no words: 1

@@ -1,5 +1,5 @@
--- Document 01, "Names, labels, indexes": the count of an expression. With "Order of refusals", check 8: an index must count below the
--- array's length. This stands in for the open condition e < n of S_AREAD and C_AWRITE.
+-- Document 01, "Names, labels, indexes": the count of an expression. With "Order of refusals", check 8: an index must count
+-- below the array's length. This stands in for the open condition e < n of S_AREAD and C_AWRITE.
 use Prim.Native.Nat.{ℕ, _+_, min, max}
 use mathlib.Core.Bool.{Bool, true}
 use mathlib.Core.Option.{Option, none, some}

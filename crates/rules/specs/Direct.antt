@@ -1,4 +1,5 @@
--- The statements read directly on the inputs: Figures 3 and 4, with document 01's + that wraps. `given d n` is input n of desk d.
+-- The statements read directly on the inputs: Figures 3 and 4, with document 01's + that wraps. `given d n` is input n of
+-- desk d.
 use Prim.Native.Nat.{ℕ, zero, suc, _+_, _*_, _-_}
 use mathlib.Core.List.{List, [], _∷_}
 use lib.ListN.{getD, set, replicate}

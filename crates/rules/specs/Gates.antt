@@ -1,5 +1,5 @@
--- Document 01, "Gates": five words each, unlisted ones 0, and the rules that a circuit keeps. With "Order of refusals", checks 20 and
--- 21. A circuit is a list of gates, the newest first; its words stand oldest first.
+-- Document 01, "Gates": five words each, unlisted ones 0, and the rules that a circuit keeps. With "Order of refusals",
+-- checks 20 and 21. A circuit is a list of gates, the newest first; its words stand oldest first.
 use Prim.Native.Nat.{ℕ, zero, suc, _+_, _*_, _/_, _%_}
 use mathlib.Core.Bool.{Bool, true, false, not, cond, _&&_, _||_}
 use mathlib.Core.Option.{Option, none, some}

@@ -1,5 +1,6 @@
--- Document 01, "Names, labels, indexes": which rows are secret. Inputs are; and a rule reads "if row a is secret, so is row b". Of all
--- sets of rows with the inputs and these rules, the secret rows are the smallest. With "Order of refusals", check 7.
+-- Document 01, "Names, labels, indexes": which rows are secret. Inputs are; and a rule reads "if row a is secret, so is row
+-- b". Of all sets of rows with the inputs and these rules, the secret rows are the smallest. With "Order of refusals", check
+-- 7.
 use Prim.Native.Nat.{ℕ, zero, suc}
 use mathlib.Core.Bool.{Bool, true, false, not, _||_}
 use mathlib.Core.Option.{Option, none, some}
@@ -84,8 +85,8 @@ pub record Closed (ins : List ℕ) (rs : List Rule) (S : ℕ → Bool) : Type 0 
 unfoldable pub Secret : List Site → ℕ → Type 0
 Secret ss r = (S : ℕ → Bool) → Closed (allInputs ss) (allRules ss) S → T (S r)
 
--- The same, computed (that it is the same is a theorem): a row is in a list; what the rules add to a list; and as many passes as
--- there are rows.
+-- The same, computed (that it is the same is a theorem): a row is in a list; what the rules add to a list; and as many
+-- passes as there are rows.
 unfoldable pub has : List ℕ → ℕ → Bool
 has [] r = false
 has (x ∷ xs) r = eqb x r || has xs r

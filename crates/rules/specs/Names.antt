@@ -1,5 +1,6 @@
--- Document 01, "Order of refusals", check 5: a name used but not in scope; declared or looped while in scope; a loop's name assigned or written as an array.
--- A declaration or a loop that fails still binds its name (Scope, Sites: they bind whatever this check says).
+-- Document 01, "Order of refusals", check 5: a name used but not in scope; declared or looped while in scope; a loop's name
+-- assigned or written as an array. A declaration or a loop that fails still binds its name (Scope, Sites: they bind whatever
+-- this check says).
 use mathlib.Core.Bool.{Bool, true, false, not}
 use mathlib.Core.Option.{Option, none, some}
 use Rattle.rules.specs.Tree.{number, truth, name, two, choose, element, input}

@@ -1,5 +1,5 @@
--- What demand 3 calls a plain reading of the gates: the value of every wire, and the outputs, with no shares (Figure 13 with every 𝓓 and
--- 𝓔 left out). `given d n` is input n of desk d.
+-- What demand 3 calls a plain reading of the gates: the value of every wire, and the outputs, with no shares (Figure 13 with
+-- every 𝓓 and 𝓔 left out). `given d n` is input n of desk d.
 use Prim.Native.Nat.{ℕ}
 use mathlib.Core.Bool.{cond}
 use mathlib.Core.Option.{Option, none, some}

@@ -1,5 +1,6 @@
--- Document 01, "Order of refusals": the two tables as statements by cases, a case for each line. The checks before it have no failing
--- place, and the place is the lowest that fails. (That each number is given in its case and no other is a theorem.)
+-- Document 01, "Order of refusals": the two tables as statements by cases, a case for each line. The checks before it have
+-- no failing place, and the place is the lowest that fails. (That each number is given in its case and no other is a
+-- theorem.)
 use Prim.Native.Nat.{ℕ, _≤_}
 use mathlib.Core.Path.{_≡_}
 use mathlib.Core.Logic.{_⊎_}

@@ -1,5 +1,5 @@
--- Document 01, "Rows": a table is words, four to a row (kind, a, b, c), and the shape of each kind is one line of a fixed table.
--- With "Order of refusals", checks 1, 2 and 3.
+-- Document 01, "Rows": a table is words, four to a row (kind, a, b, c), and the shape of each kind is one line of a fixed
+-- table. With "Order of refusals", checks 1, 2 and 3.
 use Prim.Native.Nat.{ℕ, zero, suc, _+_, _*_, _/_, _%_}
 use mathlib.Core.Bool.{Bool, true, false, not, cond, _&&_, _||_}
 use mathlib.Core.List.{List, [], _∷_}

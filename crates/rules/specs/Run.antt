@@ -1,5 +1,5 @@
--- Document 01, "From run to circuit": Figures 10 and 11 run with every public value known. No limit stands here: 9 and 10 compare with
--- what the run counts. Parts go left to right.
+-- Document 01, "From run to circuit": Figures 10 and 11 run with every public value known. No limit stands here: 9 and 10
+-- compare with what the run counts. Parts go left to right.
 use Prim.Native.Nat.{ℕ, zero, suc, _+_, _*_, _-_}
 use mathlib.Core.Bool.{Bool, true, false}
 use mathlib.Core.List.{List, [], _∷_}

@@ -1,5 +1,5 @@
--- Document 01, "Shares": what each desk gets of a value (𝓔 and 𝓓 of Figure 13), and Figure 13, in which each gate joins its wires'
--- shares and shares the result afresh. And the pairing of tapes that demand 3 speaks of.
+-- Document 01, "Shares": what each desk gets of a value (𝓔 and 𝓓 of Figure 13), and Figure 13, in which each gate joins its
+-- wires' shares and shares the result afresh. And the pairing of tapes that demand 3 speaks of.
 use Prim.Native.Nat.{ℕ, zero, suc, _+_, _-_, _%_, _^_, _<_}
 use mathlib.Core.Path.{_≡_}
 use mathlib.Core.Option.{Option, none, some}

@@ -1,5 +1,5 @@
--- Document 01, "Rows" (depth) and "Names, labels, indexes" (scope): a program as the list of its rows, each with the depth and the
--- scope that it stands at. Checks 4 to 8 are tests of such a site. Check 4.
+-- Document 01, "Rows" (depth) and "Names, labels, indexes" (scope): a program as the list of its rows, each with the depth
+-- and the scope that it stands at. Checks 4 to 8 are tests of such a site. Check 4.
 use Prim.Native.Nat.{ℕ, suc}
 use mathlib.Core.Bool.{Bool}
 use mathlib.Core.List.{List, [], _∷_, _++_}

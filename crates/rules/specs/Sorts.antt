@@ -1,5 +1,5 @@
--- Document 01, "Names, labels, indexes" and "From run to circuit": the sorts of wires, 1 arithmetic, 2 a boolean-shared uint, 3 a bool
--- (boolean, one bit), and which sort is wanted where. And one line for each two-sided operator.
+-- Document 01, "Names, labels, indexes" and "From run to circuit": the sorts of wires, 1 arithmetic, 2 a boolean-shared
+-- uint, 3 a bool (boolean, one bit), and which sort is wanted where. And one line for each two-sided operator.
 use Prim.Native.Nat.{ℕ, zero, suc, _+_, _%_, _^_}
 use mathlib.Core.Bool.{Bool, true, false, cond}
 use mathlib.Core.Option.{Option, none, some}

@@ -1,4 +1,5 @@
--- Document 01, "Text": each row is a line, four words of eight lower-case hexadecimal digits, one space between, one LF at the end.
+-- Document 01, "Text": each row is a line, four words of eight lower-case hexadecimal digits, one space between, one LF at
+-- the end.
 use Prim.Native.Nat.{ℕ, zero, suc, _+_, _*_, _-_, _/_, _%_}
 use mathlib.Core.Bool.{Bool, true, cond, _&&_, _||_}
 use mathlib.Core.List.{List, [], _∷_, _++_}
@@ -34,8 +35,8 @@ hexAt t p (suc n) = 16 * hexAt t p n + digitOf (getD t (p + n) 0)
 abbrev pub lineWords : List ℕ → ℕ → List ℕ
 lineWords t p = hexAt t p 8 ∷ hexAt t (p + 9) 8 ∷ hexAt t (p + 18) 8 ∷ hexAt t (p + 27) 8 ∷ []
 
--- how many lines a text has, one for each 36 bytes begun. All lines before the lowest bad one have 36 bytes, so its number is the
--- same where lines are split at LF
+-- how many lines a text has, one for each 36 bytes begun. All lines before the lowest bad one have 36 bytes, so its number
+-- is the same where lines are split at LF
 unfoldable pub lineCount : List ℕ → ℕ
 lineCount t = (length t + 35) / 36
 

@@ -1,6 +1,6 @@
--- Document 01, "Order of refusals", check 6 (types as in Figures 7 and 8): a wrong type; an array used whole; a lower row that reads
--- the same desk and input number at the other type. The row that holds a part fails for the part's type. An expression has a type
--- also where a part of it fails: that part's row is lower.
+-- Document 01, "Order of refusals", check 6 (types as in Figures 7 and 8): a wrong type; an array used whole; a lower row
+-- that reads the same desk and input number at the other type. The row that holds a part fails for the part's type. An
+-- expression has a type also where a part of it fails: that part's row is lower.
 use Prim.Native.Nat.{ℕ, zero, suc}
 use mathlib.Core.Bool.{Bool, true, false, not, _&&_, _||_}
 use mathlib.Core.Option.{Option}
