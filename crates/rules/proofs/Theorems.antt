@@ -1,5 +1,5 @@
 -- The theorems about document 01, on one page: each is stated here in full and proved in the file that it cites.
-use Prim.Native.Nat.{ℕ, _≤_, _<_, _^_}
+use Prim.Native.Nat.{ℕ, _≤_, _<_, _^_, _%_}
 use mathlib.Core.Path.{_≡_}
 use mathlib.Core.Logic.{_↔_}
 use mathlib.Core.List.{List, []}
@@ -14,7 +14,8 @@ use Rattle.rules.specs.Plain.{Given, plain}
 use Rattle.rules.specs.Direct.{follow, begin}
 use Rattle.rules.specs.Accesses.{AllBelow, readAccesses, runAccesses}
 use Rattle.rules.specs.Shares.{shared, Fit, Private}
-use Rattle.rules.specs.Answers.{programOf, sitesOf, secretIn, built, compile, compileAnswer, compileLeaves, failing20, failing21}
+use Rattle.rules.specs.Text.{textOf, textWords, lineCount}
+use Rattle.rules.specs.Answers.{failing12, programOf, sitesOf, secretIn, built, compile, compileAnswer, compileLeaves, failing20, failing21}
 use Rattle.rules.specs.Answers.{Lent, Evaluation, evaluate, evaluateAnswer, leavesOne, leavesTwo, leavesOuts}
 use Rattle.rules.specs.Answers.{DirectReading, readDirectly, directAnswer, directLeaves, readText, textAnswer, textLeaves}
 use Rattle.rules.specs.Refusals.{Compiles, Evaluates, Reads, ReadsText}
@@ -24,6 +25,8 @@ use Rattle.rules.proofs.Accepted.{same-outs, accesses-below, counts-wir
 use Rattle.rules.proofs.AsEvaluate.{lentFor, direct-as-evaluate}
 use Rattle.rules.proofs.Shares.{demand-three, same-outputs}
 use Rattle.rules.proofs.Memories.{compile-refused-leaves, evaluate-refused-leaves, direct-refused-leaves, text-refused-leaves}
+use Rattle.rules.proofs.Memories.{compile-refused-counts, evaluate-refused-counts, direct-refused-counts, text-refused-counts}
+use Rattle.rules.proofs.Texts.{text-read-back, never-12}
 use Rattle.rules.proofs.Memories.{compile-accepted-leaves, evaluate-accepted-leaves, direct-accepted-leaves, text-accepted-leaves}
 use Rattle.rules.proofs.Memories.{compile-length, evaluate-length, direct-length, text-length}
 use Rattle.rules.proofs.Cases as proved
@@ -99,6 +102,21 @@ direct-refusal-leaves = direct-refused-leaves
 pub text-refusal-leaves : (text table : List ℕ) → (textAnswer text table .number ≡ 0 → ⊥) → textLeaves text table ≡ table
 text-refusal-leaves = text-refused-leaves
 
+-- Its counts are 0.
+pub compile-refusal-counts : (t circuit : List ℕ) → (compileAnswer t circuit .number ≡ 0 → ⊥)
+    → (compileAnswer t circuit .gates ≡ 0) × (compileAnswer t circuit .wires ≡ 0) × (compileAnswer t circuit .steps ≡ 0)
+compile-refusal-counts = compile-refused-counts
+
+pub evaluate-refusal-counts : (l : Lent) → (evaluateAnswer l .number ≡ 0 → ⊥) → (evaluateAnswer l .wires ≡ 0) × (evaluateAnswer l .outputs ≡ 0)
+evaluate-refusal-counts = evaluate-refused-counts
+
+pub direct-refusal-counts : (t i1 i2 o : List ℕ) → (directAnswer t i1 i2 o .number ≡ 0 → ⊥)
+    → (directAnswer t i1 i2 o .wires ≡ 0) × (directAnswer t i1 i2 o .outputs ≡ 0)
+direct-refusal-counts = direct-refused-counts
+
+pub text-refusal-counts : (text table : List ℕ) → (textAnswer text table .number ≡ 0 → ⊥) → textAnswer text table .rows ≡ 0
+text-refusal-counts = text-refused-counts
+
 -- Acceptance writes its words from the start, and after them the memory is as it was.
 pub compile-writes : (t circuit : List ℕ) {s : State} → compile t circuit ≡ accepted s → compileLeaves t circuit ≡ over (circuitWords (s .gates)) circuit
 compile-writes = compile-accepted-leaves
@@ -126,6 +144,11 @@ direct-keeps-length = direct-length
 
 pub text-keeps-length : (text table : List ℕ) → length (textLeaves text table) ≡ length table
 text-keeps-length = text-length
+
+-- The text of a table's words reads back as those words, and none of its lines is wrong.
+pub text-reads-back : (ws : List ℕ) → AllWords ws → length ws % 4 ≡ 0
+    → (textWords (textOf ws) (lineCount (textOf ws)) ≡ ws) × (failing12 (textOf ws) ≡ [])
+text-reads-back ws h e = (text-read-back ws h e, never-12 ws)
 
 -- The P cases as one list under one statement, and the likely slips.
 pub all-cases-hold : AllHold cases
