@@ -27,7 +27,7 @@ use Rattle.rules.specs.Answers.{programOf, rowsOf, sitesOf, secretIn, ru
 use Rattle.rules.proofs.Places.{fault-none, none-below}
 use Rattle.rules.proofs.Sites.{Each, each-map, none-failing}
 use Rattle.rules.proofs.Refusals.{built-accepted}
-use Rattle.rules.proofs.Formed.{and-left, and-right, FormedS, program-formed}
+use Rattle.rules.proofs.Formed.{FormedS, program-formed}
 use Rattle.rules.proofs.Labels.{RowsBelow, ClosedAt, closed, exactly, each-rules}
 use Rattle.rules.proofs.InputSorts.{AtInputSort, inputSort, input-sorts}
 use Rattle.rules.proofs.Sited.{SiteFormed, stmt-sites}
@@ -38,6 +38,7 @@ use Rattle.rules.proofs.Statements.{Holds, stmt-agrees, start-holds}
 use Rattle.rules.proofs.Accesses.{stmt-below}
 use Rattle.rules.proofs.Circuits.{never-20-21, gates-of-bytes}
 use Rattle.rules.proofs.Bounds.{sound-words}
+use Rattle.rules.proofs.Basics.{and-left, and-right}
 
 -- each site passes every check that each passes
 passes-each : (t : List ℕ) (S : ℕ → Bool) (σ : ℕ → ℕ → Sort) (ss : List Site) → Each (λ s. T (check5 s)) ss → Each (λ s. T (check6 t s)) ss → Each (λ s. T (check7 S s)) ss

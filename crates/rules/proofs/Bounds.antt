@@ -2,21 +2,18 @@
 use Prim.Native.Nat.{ℕ, _≤_, _<_}
 use mathlib.Core.Path.{_≡_}
 use mathlib.Core.Bool.{Bool, true, false, not, _&&_, _||_}
-use mathlib.Core.List.{List, [], _∷_, _++_}
+use mathlib.Core.List.{List, [], _∷_}
 use lib.Dec.{T, eqb, ltb, ltb→lt, eqb→eq}
 use lib.ListN.{length}
 use native.Mathlib.Omega.{arith}
 use Rattle.words.specs.Words.{AllWords}
+use Rattle.words.proofs.Words.{words-both}
 use Rattle.rules.specs.Rows.{Op, add, gt}
 use Rattle.rules.specs.Sorts.{Sort, arithmetic, boolean, bit, sortNumber, same, fitsSort, sideAt}
 use Rattle.rules.specs.Gates.{Gate, both, mux, constant, convert, entry, output, gateNumber, gateWords, circuitWords, wires, isWire, isNext, clashes, keepsRules}
-use Rattle.rules.proofs.Formed.{and-left, and-right}
 use Rattle.rules.proofs.Making.{Extra, AllSound}
 use Rattle.rules.proofs.Circuits.{wires-and-outs}
-
-words-both : (xs ys : List ℕ) → AllWords xs → AllWords ys → AllWords (xs ++ ys)
-words-both [] ys p q = q
-words-both (x ∷ xs) ys p q = (p .0, words-both xs ys (p .1) q)
+use Rattle.rules.proofs.Basics.{and-left, and-right}
 
 sort-small : (m : Sort) → sortNumber m < 4294967296
 sort-small arithmetic = omega arith

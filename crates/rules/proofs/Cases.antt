@@ -33,7 +33,7 @@ use Rattle.rules.specs.Text.{isDigit, digitOf, fitsColumn, fitsTo, isLin
 use Rattle.rules.specs.Answers.{failingText, failing12, failing13, readText, gateLines, printed}
 use Rattle.rules.specs.Cases.{compiles, prints, sumText, sumListing, openText, openListing, Gives, Pairs, DiffersBy, Holds, AllHold, unchanged, plus, xor, allChanged, compiledWith}
 use Rattle.rules.specs.Cases.{sum, written, shown, writtenNext, shownNext, array, idle, twice, greater, million, sumCircuit, greaterCircuit}
-use Rattle.rules.specs.Cases.{sumOf7And5, greaterOf7And5, greaterOf9And5, greaterOf7Or9, cases}
+use Rattle.rules.specs.Cases.{sumOf7And5, greaterOf7And5, greaterOf9And5, greaterOf7Or9, cases, listings}
 use Rattle.rules.specs.Cases.{indexLate, guardLate, idleUnknown, idleSecret, condTrue, condInput, slips}
 use Rattle.rules.proofs.Loops.{loop-steps, loop-keeps}
 
@@ -237,8 +237,6 @@ unfolding compiling cases sum written shown writtenNext shownNext array idle twi
 all-hold =
     refl  -- sum, compiled
     and sum-gives
-    and sum-prints
-    and open-prints
     and refl  -- no words
     and refl  -- index the loop's name, 0 to 3: a write
     and refl  -- and a read
@@ -257,6 +255,11 @@ all-hold =
     and greater-differs
     and million-holds
     and tt
+
+-- The listings are as printed.
+pub listings-hold : AllHold listings
+unfolding listings
+listings-hold = sum-prints and open-prints and tt
 
 -- No likely slip is made.
 pub slips-hold : AllHold slips

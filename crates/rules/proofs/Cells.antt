@@ -18,10 +18,6 @@ use Rattle.rules.proofs.Making.{Worth}
 use Rattle.rules.proofs.Fine.{sizeK}
 use Rattle.rules.proofs.Expressions.{Cell, Agrees}
 
--- a name is unknown or known, and stands for one thing
-pub none≢some : {A : Type 0} (b : A) → _≡_ {A = Option A} none (some b) → ⊥
-none≢some b f = let z : _≡_ {A = ℕ} 0 1 = cc in omega arith
-
 -- a name that is unknown is none that is known
 pub fresh : (sc : Scope) (x y : ℕ) (b : Known) → lookup sc x ≡ none → lookup sc y ≡ some b → y ≡ x → ⊥
 fresh sc x y b e f q = let z : _≡_ {A = ℕ} 0 1 = cc (ap (lookup sc) q) in omega arith

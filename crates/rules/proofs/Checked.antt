@@ -17,9 +17,10 @@ use Rattle.rules.specs.Labels.{whenRead, whenStored, rulesOf, inputsOf, 
 use Rattle.rules.specs.Counts.{count, counted, check8}
 use Rattle.rules.specs.Sorts.{Sort}
 use Rattle.rules.proofs.Sites.{Each, each-left, each-right}
-use Rattle.rules.proofs.Formed.{and-left, and-right, FormedE, FormedS}
+use Rattle.rules.proofs.Formed.{FormedE, FormedS}
 use Rattle.rules.proofs.InputSorts.{AtInputSort}
 use Rattle.rules.proofs.Fine.{ReadsName, StoresName, Indexes, FineE, FineS}
+use Rattle.rules.proofs.Basics.{and-left, and-right}
 
 -- what the checks say of a site
 pub record Passes (t : List ℕ) (S : ℕ → Bool) (σ : ℕ → ℕ → Sort) (s : Site) : Type 0 where

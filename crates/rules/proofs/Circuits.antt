@@ -1,12 +1,10 @@
 -- A circuit's words and bytes are read back as its gates, and a circuit that keeps the rules is never refused with 20 or 21.
-use mathlib.Core.Path.{_≡_, refl, sym, ap, ap₂, _∙_}
-use mathlib.Core.Logic.{_↔_}
+use mathlib.Core.Path.{_≡_, refl, ap, ap₂, _∙_}
 use Prim.Native.Nat.{ℕ, zero, suc, _+_, _*_, _%_, _≤_}
 use native.Mathlib.Omega.{arith}
 use mathlib.Core.Bool.{Bool}
 use mathlib.Core.Option.{Option, none, some}
 use mathlib.Core.List.{List, [], _∷_, _++_, append-nil}
-use lib.Dec.{T}
 use lib.ListN.{length, take, length-append, List·getD-append}
 use lib.Seq.{getD-append-add}
 use borrow.Author.Tests.{eq-eqb, le-leb}
@@ -14,10 +12,10 @@ use Rattle.words.specs.Words.{words, bytesOf, over, AllWords}
 use Rattle.words.proofs.Words.{bytes-length, words-read-back, over-front}
 use Rattle.rules.specs.Places.{fault, failingBelow}
 use Rattle.rules.specs.Rows.{add, gt}
-use Rattle.rules.specs.Sorts.{Sort, arithmetic, boolean, bit, sortNumbered, fitsSort}
-use Rattle.rules.specs.Gates.{Gate, Wires, sortMade, both, mux, constant, convert, entry, output, gateWords, circuitWords, gateKinds, gateOf, gateWord, gateAt, gateCount, gatesTo, added, makes, wires, wired, gateKeeps, keepsRules, check21, circuitFits, AllKeep, entryTest}
+use Rattle.rules.specs.Sorts.{Sort, arithmetic, boolean, bit, sortNumbered}
+use Rattle.rules.specs.Gates.{Gate, Wires, sortMade, both, mux, constant, convert, entry, output, gateWords, circuitWords, gateKinds, gateOf, gateWord, gateAt, gateCount, gatesTo, added, makes, wires, wired, gateKeeps, keepsRules, check21, circuitFits, AllKeep}
 use Rattle.rules.specs.Plain.{Given, Reading, plain, noted}
-use Rattle.rules.specs.Shares.{Desks, shared, dealt, FitBools}
+use Rattle.rules.specs.Shares.{Desks, shared, dealt}
 use Rattle.rules.specs.Answers.{gatesOf, outMade, outCount, failing20, failing21}
 use Rattle.rules.proofs.Places.{failing-same, failing-last}
 
@@ -204,34 +202,3 @@ pub wires-and-outs : (gs : List Gate) → length gs ≡ wires gs .count + outCou
 unfolding wires outCount
 wires-and-outs [] = refl
 wires-and-outs (g ∷ gs) = omega (arith, wires-and-outs gs, wire-or-out (makes g) (sortMade (wires gs .sort) g) (wires gs))
-
--- every input that a circuit reads passes a test: a product over its gates
-abbrev pub AllEntries : (ℕ → ℕ → Sort → Bool) → List Gate → Type 0
-AllEntries ok [] = Unit {0}
-AllEntries ok (g ∷ gs) = T (entryTest ok (some g)) × AllEntries ok gs
-
--- a test of the input that gate i of a circuit's words reads
-abbrev entryAt : (ℕ → ℕ → Sort → Bool) → List ℕ → ℕ → Bool
-entryAt ok c i = entryTest ok (gateAt c i)
-
--- it reads only the words up to gate i
-entry-front : (ok : ℕ → ℕ → Sort → Bool) → ReadsFront (entryAt ok)
-entry-front ok c d i h = ap (entryTest ok) (gate-front c d i h)
-
--- no gate of a circuit's words fails the test exactly where every input that the circuit reads passes it
-pub entries-back : (ok : ℕ → ℕ → Sort → Bool) (gs : List Gate)
-    → (failingBelow (λ i. entryTest ok (gateAt (circuitWords gs) i)) (length gs) ≡ []) ↔ AllEntries ok gs
-unfolding failingBelow
-entries-back ok [] = (λ e. tt, λ h. refl)
-entries-back ok (g ∷ gs) =
-    let last : entryAt ok (circuitWords (g ∷ gs)) (length gs) ≡ entryTest ok (some g) = ap (entryTest ok) (last-gate g gs) in
-    let before = earlier-failing (entryAt ok) (entry-front ok) g gs in
-    let split = failing-last (entryAt ok (circuitWords (g ∷ gs))) (length gs) in (
-      λ e. (rw last at (split .0 e .0), entries-back ok gs .0 (sym before ∙ split .0 e .1)),
-      λ h. split .1 (rw last (h .0), before ∙ entries-back ok gs .1 (h .1)),
-    )
-
--- the bools of fit inputs, as such a test
-pub fit-bools : (given : Given) (gs : List Gate) → FitBools given gs ↔ AllEntries (λ d n m. fitsSort m (given d n)) gs
-fit-bools given [] = (λ h. h, λ h. h)
-fit-bools given (g ∷ gs) = (λ h. (h .0, fit-bools given gs .0 (h .1)), λ h. (h .0, fit-bools given gs .1 (h .1)))

@@ -4,7 +4,7 @@ use Prim.Native.Nat.{ℕ, zero, suc, _+_, _*_, _<_}
 use native.Mathlib.Omega.{arith}
 use mathlib.Core.Bool.{Bool, true, false, cond}
 use mathlib.Core.Option.{Option, none, some}
-use mathlib.Core.List.{List, [], _∷_, _++_}
+use mathlib.Core.List.{List, [], _∷_}
 use lib.Dec.{T, eqb}
 use lib.ListN.{getD}
 use Rattle.words.specs.Words.{AllWords}
@@ -17,6 +17,7 @@ use Rattle.rules.specs.Gates.{gateKeeps, check21, AllKeep, entryTest}
 use Rattle.rules.specs.Plain.{Given, inputs}
 use Rattle.rules.specs.Shares.{FitBools, Fit}
 use Rattle.rules.specs.Answers.{failing23}
+use Rattle.words.proofs.Words.{words-both}
 use Rattle.rules.proofs.Places.{failing-last}
 
 -- where no place below n + 1 fails, none below n does, and place n passes
@@ -89,10 +90,6 @@ written-at : (c : List ℕ) (i : ℕ) → Written (gateAt c i) (fiveWords c i)
 unfolding gateAt
 written-at c i = written (gateWord c i 0) (gateWord c i 1) (gateWord c i 2) (gateWord c i 3) (gateWord c i 4)
 
--- the gate at i has the five words from 5 * i on
-pub decoded : (c : List ℕ) (i : ℕ) (g : Gate) → gateAt c i ≡ some g → gateWords g ≡ fiveWords c i
-decoded c i g e = subst (λ (o : Option Gate). Written o (fiveWords c i)) e (written-at c i)
-
 -- word k of words is a word, and past the end 0
 pub word-at : (ws : List ℕ) → AllWords ws → (k : ℕ) → getD ws k 0 < 4294967296
 word-at [] words k = omega arith
@@ -107,17 +104,12 @@ five-words c i words = (at 0, (at 1, (at 2, (at 3, (at 4, tt)))))
     at : (k : ℕ) → getD c (5 * i + k) 0 < 4294967296
     at k = word-at c words (5 * i + k)
 
--- words and more words
-words-append : (xs ys : List ℕ) → AllWords xs → AllWords ys → AllWords (xs ++ ys)
-words-append [] ys ws vs = vs
-words-append (x ∷ xs) ys ws vs = (ws .0, words-append xs ys (ws .1) vs)
-
 -- one gate more has words
 words-step : (g : Option Gate) (gs : List Gate) (ws : List ℕ) → Written g ws → AllWords ws → AllWords (circuitWords gs)
     → AllWords (circuitWords (added g gs))
 unfolding circuitWords
 words-step none gs ws is words before = before
-words-step (some g) gs ws is words before = words-append (circuitWords gs) (gateWords g) before (subst AllWords (sym is) words)
+words-step (some g) gs ws is words before = words-both (circuitWords gs) (gateWords g) before (subst AllWords (sym is) words)
 
 -- the gates of words have words
 pub words-of : (c : List ℕ) (n : ℕ) → AllWords c → AllWords (circuitWords (gatesTo c n))

@@ -11,14 +11,7 @@ use Rattle.rules.specs.Rows.{Ty, Kind, unknown, isE, isS, ofNumber, ofTr
 use Rattle.rules.specs.Rows.{ofDeclare, ofAssign, ofLoop, ofWrite, ofBranch, ofOut, ofThen, kinds, word, kindAt, rowCount, shapeOf, fits, shaped, rowShaped, isExpr, isStmt}
 use Rattle.rules.specs.Tree.{Expr, number, truth, name, two, choose, element, input, Stmt, declare, assign, loop, write, branch, out, then}
 use Rattle.rules.specs.Tree.{typeOf, exprOf, stmtOf, below, levels, byRows, exprAt, stmtAt, program}
-
-pub and-left : (a b : Bool) → T (a && b) → T a
-and-left true b t = tt
-and-left false b t = t
-
-pub and-right : (a b : Bool) → T (a && b) → T b
-and-right true b t = t
-and-right false b t = absurd t
+use Rattle.rules.proofs.Basics.{and-left, and-right}
 
 -- the words of row r that read input k of desk d at type y
 pub record InputRow (t : List ℕ) (r : ℕ) (y : Ty) (d k : ℕ) : Type 0 where

@@ -16,6 +16,7 @@ use Rattle.rules.specs.Types.{differs, clashTo, typed, check6}
 use Rattle.rules.specs.Sorts.{Sort, arithmetic, keptAt}
 use Rattle.rules.proofs.Sites.{Each}
 use Rattle.rules.proofs.Formed.{InputRow}
+use Rattle.rules.proofs.Basics.{none≢some}
 
 -- the type at which a node reads input n of desk d, if it does
 abbrev readAs : ℕ → ℕ → Node → Option Ty
@@ -54,9 +55,6 @@ each-of P (x ∷ xs) h = (h x (inl refl), each-of P xs (λ s m. h s (inr m)))
 some-one : {A : Type 0} (a b : A) → some a ≡ some b → a ≡ b
 some-one a b e = cc
 
-none-some : {A : Type 0} (a : A) → _≡_ {A = Option A} none (some a) → ⊥
-none-some a e = let z : _≡_ {A = ℕ} 0 1 = cc in omega arith
-
 -- where every reader reads at type y, and one site is a reader, the sort is y's
 sort-of-readers : (d n : ℕ) (y : Ty) (ss : List Site) → ((s : Site) → Among s ss → (z : Ty) → readAs d n (s .node) ≡ some z → z ≡ y)
     → (s : Site) → Among s ss → readAs d n (s .node) ≡ some y → inputSort ss d n ≡ keptAt y
@@ -66,7 +64,7 @@ sort-of-readers d n y (x ∷ xs) h s m e = go (readAs d n (x .node)) refl (λ k.
   where
     go : (o : Option Ty) → readAs d n (x .node) ≡ o → (Among s xs → inputSort xs d n ≡ keptAt y) → Among s (x ∷ xs) → sortOr o (inputSort xs d n) ≡ keptAt y
     go (some z) f rec m = ap keptAt (h x (inl refl) z f)
-    go none f rec (inl q) = absurd (none-some y (sym f ∙ ap (λ (u : Site). readAs d n (u .node)) (sym q) ∙ e))
+    go none f rec (inl q) = absurd (none≢some y (sym f ∙ ap (λ (u : Site). readAs d n (u .node)) (sym q) ∙ e))
     go none f rec (inr k) = rec k
 
 -- the row that a reader stands at
@@ -96,18 +94,18 @@ reader t d n y s = go (s .node)
       words = subst (λ (v : Ty). InputRow t r v d n) (some-one z y f) (subst (λ (i : ℕ). InputRow t r z i n) (eqb-true e d hp) (subst (λ (i : ℕ). InputRow t r z e i) (eqb-true k n hq) w));
       clear = c;
     }
-    at r z e k w c true false hp hq f = absurd (none-some y f)
-    at r z e k w c false q hp hq f = absurd (none-some y f)
+    at r z e k w c true false hp hq f = absurd (none≢some y f)
+    at r z e k w c false q hp hq f = absurd (none≢some y f)
 
     go : (x : Node) → FormedInput t x → T (typed t (s .scope) x) → readAs d n x ≡ some y → Reader t y d n
-    go (ofE (number r v)) w c f = absurd (none-some y f)
-    go (ofE (truth r v)) w c f = absurd (none-some y f)
-    go (ofE (name r x)) w c f = absurd (none-some y f)
-    go (ofE (two r o a b)) w c f = absurd (none-some y f)
-    go (ofE (choose r g a b)) w c f = absurd (none-some y f)
-    go (ofE (element r x i)) w c f = absurd (none-some y f)
+    go (ofE (number r v)) w c f = absurd (none≢some y f)
+    go (ofE (truth r v)) w c f = absurd (none≢some y f)
+    go (ofE (name r x)) w c f = absurd (none≢some y f)
+    go (ofE (two r o a b)) w c f = absurd (none≢some y f)
+    go (ofE (choose r g a b)) w c f = absurd (none≢some y f)
+    go (ofE (element r x i)) w c f = absurd (none≢some y f)
     go (ofE (input r z e k)) w c f = at r z e k w c (eqb e d) (eqb k n) refl refl f
-    go (ofS p) w c f = absurd (none-some y f)
+    go (ofS p) w c f = absurd (none≢some y f)
 
 -- no row below one that passes differs from it
 no-difference : (t : List ℕ) (r m : ℕ) → T (not (clashTo t r m)) → (q : ℕ) → q < m → T (not (differs t r q))

@@ -2,27 +2,18 @@
 use Prim.Native.Nat.{ℕ, zero, suc, _+_, _≤_, _<_}
 use mathlib.Core.Path.{_≡_, refl, subst}
 use mathlib.Core.Logic.{_⊎_, inl, inr, ⊎-elim, _↔_}
-use mathlib.Core.Bool.{Bool, true, false, _||_}
+use mathlib.Core.Bool.{Bool, true, false}
 use mathlib.Core.List.{List, [], _∷_, _++_}
 use lib.Dec.{T, eqb, eqb→eq, eqb-refl, ltb, ltb→lt}
 use mir.Facts.{or-yes}
 use native.Mathlib.Decide.{decLe}
 use native.Mathlib.Omega.{arith}
 use Rattle.rules.specs.Labels.{Rule, Has, Keeps, Closed, has, fired, passes}
+use Rattle.rules.proofs.Basics.{or-left, or-right}
 
 -- one set in another
 abbrev pub Within : (ℕ → Bool) → (ℕ → Bool) → Type 0
 Within S R = (r : ℕ) → T (S r) → T (R r)
-
--- one test of two passes: the first,
-or-left : (a b : Bool) → T a → T (a || b)
-or-left true b t = tt
-or-left false b t = absurd t
-
--- or the second
-or-right : (a b : Bool) → T b → T (a || b)
-or-right true b t = tt
-or-right false b t = t
 
 -- A set has a list exactly if the list's members are in it: from the list to its members,
 pub has-members : (S : ℕ → Bool) (xs : List ℕ) → Has S xs → Within (has xs) S

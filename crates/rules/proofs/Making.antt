@@ -15,19 +15,7 @@ use Rattle.rules.specs.Sorts.{Sort, arithmetic, boolean, bit, same, type
 use Rattle.rules.specs.Gates.{Gate, both, mux, constant, convert, entry, output, makes, Wires, wires, wired, sortMade, isWire, isNext, otherSort, clashes, keepsRules, AllKeep}
 use Rattle.rules.specs.Run.{Val, known, held, State, Made, wireIn, numberIn, typeV, make, converted, bringVal, bring}
 use Rattle.rules.specs.Plain.{Given, valueOf, Reading, noted, plain}
-
--- Tests that hold together.
-pub and-both : (a b : Bool) → T a → T b → T (a && b)
-and-both true b p q = q
-and-both false b p q = p
-
-pub or-left : (a b : Bool) → T a → T (a || b)
-or-left true b t = tt
-or-left false b t = absurd t
-
-pub or-right : (a b : Bool) → T b → T (a || b)
-or-right true b t = tt
-or-right false b t = t
+use Rattle.rules.proofs.Basics.{and-both, or-left, or-right, same-refl, same-true}
 
 -- the largest value of a type
 abbrev pub topOf : Ty → ℕ
@@ -54,22 +42,6 @@ AllSound σ (g ∷ gs) = T (keepsRules gs g) × Extra σ g × AllSound σ gs
 pub sound-keeps : (σ : ℕ → ℕ → Sort) (gs : List Gate) → AllSound σ gs → AllKeep gs
 sound-keeps σ [] h = tt
 sound-keeps σ (g ∷ gs) h = (h .0, sound-keeps σ gs (h .2))
-
-pub same-refl : (m : Sort) → T (same m m)
-same-refl arithmetic = tt
-same-refl boolean = tt
-same-refl bit = tt
-
-pub same-true : (k m : Sort) → T (same k m) → k ≡ m
-same-true arithmetic arithmetic t = refl
-same-true arithmetic boolean t = absurd t
-same-true arithmetic bit t = absurd t
-same-true boolean arithmetic t = absurd t
-same-true boolean boolean t = refl
-same-true boolean bit t = absurd t
-same-true bit arithmetic t = absurd t
-same-true bit boolean t = absurd t
-same-true bit bit t = refl
 
 -- one gate of another sort, where both sorts are σ's
 other-none : (σ : ℕ → ℕ → Sort) (d n : ℕ) (m : Sort) (g : Gate) → Extra σ g → m ≡ σ d n → T (not (otherSort d n m g))

@@ -83,11 +83,6 @@ pub nil-right : (xs ys : List ℕ) → xs ++ ys ≡ [] → ys ≡ []
 nil-right [] ys e = e
 nil-right (x ∷ xs) ys e = absurd (cons≢nil e)
 
--- a test that holds is true
-pub true-of : (t : Bool) → T t → t ≡ true
-true-of true h = refl
-true-of false h = absurd h
-
 -- a failing test has the one place it stands at
 pub in-fault : (b : Bool) (p q : ℕ) → In p (fault b q) ↔ ((p ≡ q) × T (not b))
 unfolding fault

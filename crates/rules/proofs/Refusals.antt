@@ -65,15 +65,15 @@ textRungs text table = rung 1 (failingText text) ∷ rung 12 (failing12 text) �
 pub built-case : (t : List ℕ) → Builds t (built t)
 unfolding built
 built-case t =
-    by-cases (Builds t) (tableRungs t) _ (λ p c. Builds.no-1) (λ p. Builds.no-2) (λ p. Builds.no-3) (λ p. Builds.no-4) (λ p. Builds.no-5)
-    (λ p. Builds.no-6) (λ p. Builds.no-7) (λ p. Builds.no-8) (λ p. Builds.no-9) (λ p. Builds.no-10) Builds.all-hold
+    by-cases (Builds t) (tableRungs t) _ (λ p c. Builds.with-1) (λ p. Builds.with-2) (λ p. Builds.with-3) (λ p. Builds.with-4) (λ p. Builds.with-5)
+    (λ p. Builds.with-6) (λ p. Builds.with-7) (λ p. Builds.with-8) (λ p. Builds.with-9) (λ p. Builds.with-10) Builds.all-hold
 
 -- compile, after a table's checks
 compile-after : (t circuit : List ℕ) (v : Verdict State) → Builds t v
     → Compiles t circuit (andThen v λ s. ladder (circuitRungs s circuit) (accepted s))
 unfolding andThen
 compile-after t circuit (refused k p) b = Compiles.as-built b
-compile-after t circuit (accepted s) b = by-cases (Compiles t circuit) (circuitRungs s circuit) _ (λ p c. Compiles.no-11 b) (Compiles.all-hold b)
+compile-after t circuit (accepted s) b = by-cases (Compiles t circuit) (circuitRungs s circuit) _ (λ p c. Compiles.with-11 b) (Compiles.all-hold b)
 
 -- compile
 pub compile-case : (t circuit : List ℕ) → Compiles t circuit (compile t circuit)
@@ -84,8 +84,8 @@ compile-case t circuit = compile-after t circuit (built t) (built-case t)
 pub evaluate-case : (l : Lent) → Evaluates l (evaluate l)
 unfolding evaluate
 evaluate-case l =
-    by-cases (Evaluates l) (evaluateRungs l) _ (λ p c. Evaluates.no-20) (λ p. Evaluates.no-21) (λ p. Evaluates.no-22) (λ p. Evaluates.no-23)
-    (λ p. Evaluates.no-24) (λ p. Evaluates.no-25) Evaluates.all-hold
+    by-cases (Evaluates l) (evaluateRungs l) _ (λ p c. Evaluates.with-20) (λ p. Evaluates.with-21) (λ p. Evaluates.with-22) (λ p. Evaluates.with-23)
+    (λ p. Evaluates.with-24) (λ p. Evaluates.with-25) Evaluates.all-hold
 
 -- what the direct reading has at the end
 abbrev figures : List ℕ → List ℕ → List ℕ → State → DirectReading
@@ -97,7 +97,7 @@ direct-after : (t i1 i2 o : List ℕ) (v : Verdict State) → Builds t v
 unfolding andThen
 direct-after t i1 i2 o (refused k p) b = Reads.as-built b
 direct-after t i1 i2 o (accepted s) b =
-    by-cases (Reads t i1 i2 o) (directRungs s i1 i2 o) _ (λ p c. Reads.no-22 b) (λ p. Reads.no-23 b) (λ p. Reads.no-25 b) (Reads.all-hold b)
+    by-cases (Reads t i1 i2 o) (directRungs s i1 i2 o) _ (λ p c. Reads.with-22 b) (λ p. Reads.with-23 b) (λ p. Reads.with-25 b) (Reads.all-hold b)
 
 -- direct reading
 pub direct-case : (t i1 i2 o : List ℕ) → Reads t i1 i2 o (readDirectly t i1 i2 o)
@@ -108,56 +108,56 @@ direct-case t i1 i2 o = direct-after t i1 i2 o (built t) (built-case t)
 pub text-case : (text table : List ℕ) → ReadsText text table (readText text table)
 unfolding readText
 text-case text table =
-    by-cases (ReadsText text table) (textRungs text table) _ (λ p c. ReadsText.no-1) (λ p. ReadsText.no-12) (λ p. ReadsText.no-13) ReadsText.all-hold
+    by-cases (ReadsText text table) (textRungs text table) _ (λ p c. ReadsText.with-1) (λ p. ReadsText.with-12) (λ p. ReadsText.with-13) ReadsText.all-hold
 
 -- The cases are the definition. A table's checks:
 pub built-is : (t : List ℕ) {v : Verdict State} → Builds t v → built t ≡ v
 unfolding built
-built-is t (Builds.no-1 l) = refuses-at 0 (tableRungs t) _ tt l
-built-is t (Builds.no-2 c l) = refuses-at 1 (tableRungs t) _ c l
-built-is t (Builds.no-3 c l) = refuses-at 2 (tableRungs t) _ c l
-built-is t (Builds.no-4 c l) = refuses-at 3 (tableRungs t) _ c l
-built-is t (Builds.no-5 c l) = refuses-at 4 (tableRungs t) _ c l
-built-is t (Builds.no-6 c l) = refuses-at 5 (tableRungs t) _ c l
-built-is t (Builds.no-7 c l) = refuses-at 6 (tableRungs t) _ c l
-built-is t (Builds.no-8 c l) = refuses-at 7 (tableRungs t) _ c l
-built-is t (Builds.no-9 c l) = refuses-at 8 (tableRungs t) _ c l
-built-is t (Builds.no-10 c l) = refuses-at 9 (tableRungs t) _ c l
+built-is t (Builds.with-1 l) = refuses-at 0 (tableRungs t) _ tt l
+built-is t (Builds.with-2 c l) = refuses-at 1 (tableRungs t) _ c l
+built-is t (Builds.with-3 c l) = refuses-at 2 (tableRungs t) _ c l
+built-is t (Builds.with-4 c l) = refuses-at 3 (tableRungs t) _ c l
+built-is t (Builds.with-5 c l) = refuses-at 4 (tableRungs t) _ c l
+built-is t (Builds.with-6 c l) = refuses-at 5 (tableRungs t) _ c l
+built-is t (Builds.with-7 c l) = refuses-at 6 (tableRungs t) _ c l
+built-is t (Builds.with-8 c l) = refuses-at 7 (tableRungs t) _ c l
+built-is t (Builds.with-9 c l) = refuses-at 8 (tableRungs t) _ c l
+built-is t (Builds.with-10 c l) = refuses-at 9 (tableRungs t) _ c l
 built-is t (Builds.all-hold c) = leads-up (tableRungs t) _ c
 
 -- compile
 pub compile-is : (t circuit : List ℕ) {v : Verdict State} → Compiles t circuit v → compile t circuit ≡ v
 unfolding compile
 compile-is t circuit (Compiles.as-built b) = then-refused _ (built-is t b)
-compile-is t circuit (Compiles.no-11 {s = s} b l) = then-accepted _ (built-is t b) ∙ refuses-at 0 (circuitRungs s circuit) _ tt l
+compile-is t circuit (Compiles.with-11 {s = s} b l) = then-accepted _ (built-is t b) ∙ refuses-at 0 (circuitRungs s circuit) _ tt l
 compile-is t circuit (Compiles.all-hold {s = s} b c) = then-accepted _ (built-is t b) ∙ leads-up (circuitRungs s circuit) _ c
 
 -- evaluate
 pub evaluate-is : (l : Lent) {v : Verdict Evaluation} → Evaluates l v → evaluate l ≡ v
 unfolding evaluate
-evaluate-is l (Evaluates.no-20 m) = refuses-at 0 (evaluateRungs l) _ tt m
-evaluate-is l (Evaluates.no-21 c m) = refuses-at 1 (evaluateRungs l) _ c m
-evaluate-is l (Evaluates.no-22 c m) = refuses-at 2 (evaluateRungs l) _ c m
-evaluate-is l (Evaluates.no-23 c m) = refuses-at 3 (evaluateRungs l) _ c m
-evaluate-is l (Evaluates.no-24 c m) = refuses-at 4 (evaluateRungs l) _ c m
-evaluate-is l (Evaluates.no-25 c m) = refuses-at 5 (evaluateRungs l) _ c m
+evaluate-is l (Evaluates.with-20 m) = refuses-at 0 (evaluateRungs l) _ tt m
+evaluate-is l (Evaluates.with-21 c m) = refuses-at 1 (evaluateRungs l) _ c m
+evaluate-is l (Evaluates.with-22 c m) = refuses-at 2 (evaluateRungs l) _ c m
+evaluate-is l (Evaluates.with-23 c m) = refuses-at 3 (evaluateRungs l) _ c m
+evaluate-is l (Evaluates.with-24 c m) = refuses-at 4 (evaluateRungs l) _ c m
+evaluate-is l (Evaluates.with-25 c m) = refuses-at 5 (evaluateRungs l) _ c m
 evaluate-is l (Evaluates.all-hold c) = leads-up (evaluateRungs l) _ c
 
 -- direct reading
 pub direct-is : (t i1 i2 o : List ℕ) {v : Verdict DirectReading} → Reads t i1 i2 o v → readDirectly t i1 i2 o ≡ v
 unfolding readDirectly
 direct-is t i1 i2 o (Reads.as-built b) = then-refused _ (built-is t b)
-direct-is t i1 i2 o (Reads.no-22 {s = s} b l) = then-accepted _ (built-is t b) ∙ refuses-at 0 (directRungs s i1 i2 o) _ tt l
-direct-is t i1 i2 o (Reads.no-23 {s = s} b c l) = then-accepted _ (built-is t b) ∙ refuses-at 1 (directRungs s i1 i2 o) _ c l
-direct-is t i1 i2 o (Reads.no-25 {s = s} b c l) = then-accepted _ (built-is t b) ∙ refuses-at 2 (directRungs s i1 i2 o) _ c l
+direct-is t i1 i2 o (Reads.with-22 {s = s} b l) = then-accepted _ (built-is t b) ∙ refuses-at 0 (directRungs s i1 i2 o) _ tt l
+direct-is t i1 i2 o (Reads.with-23 {s = s} b c l) = then-accepted _ (built-is t b) ∙ refuses-at 1 (directRungs s i1 i2 o) _ c l
+direct-is t i1 i2 o (Reads.with-25 {s = s} b c l) = then-accepted _ (built-is t b) ∙ refuses-at 2 (directRungs s i1 i2 o) _ c l
 direct-is t i1 i2 o (Reads.all-hold {s = s} b c) = then-accepted _ (built-is t b) ∙ leads-up (directRungs s i1 i2 o) _ c
 
 -- text
 pub text-is : (text table : List ℕ) {v : Verdict (List ℕ)} → ReadsText text table v → readText text table ≡ v
 unfolding readText
-text-is text table (ReadsText.no-1 l) = refuses-at 0 (textRungs text table) _ tt l
-text-is text table (ReadsText.no-12 c l) = refuses-at 1 (textRungs text table) _ c l
-text-is text table (ReadsText.no-13 c l) = refuses-at 2 (textRungs text table) _ c l
+text-is text table (ReadsText.with-1 l) = refuses-at 0 (textRungs text table) _ tt l
+text-is text table (ReadsText.with-12 c l) = refuses-at 1 (textRungs text table) _ c l
+text-is text table (ReadsText.with-13 c l) = refuses-at 2 (textRungs text table) _ c l
 text-is text table (ReadsText.all-hold c) = leads-up (textRungs text table) _ c
 
 -- The statements by cases say exactly what the definitions do: checks 1 to 10 of a table,

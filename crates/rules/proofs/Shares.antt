@@ -22,6 +22,7 @@ use Rattle.rules.specs.Shares.{minus, shareOne, shareTwo, join, taken, t
 use Rattle.rules.specs.Shares.{sharesOne, sharesTwo, partnerWord, partner, Tape, Fit, Private}
 use Rattle.rules.proofs.Xor.{xor-cancel, xor-back, xor-turn}
 use Rattle.rules.proofs.Listed.{length-listed, getD-listed, listed-same, listed-getD}
+use Rattle.rules.proofs.Basics.{and-left, and-right, same-true}
 
 -- One value.
 
@@ -82,16 +83,6 @@ partner-two bit v v' t good good' ht =
 
 -- What a gate that keeps the rules reads and makes.
 
--- of two tests that both pass, the first does
-and-left : (x y : Bool) → T (x && y) → T x
-and-left true y t = tt
-and-left false y t = absurd t
-
--- and the second does
-and-right : (x y : Bool) → T (x && y) → T y
-and-right true y t = t
-and-right false y t = absurd t
-
 -- where one of two tests passes, the first does or the second
 or-cases : (x y : Bool) → T (x || y) → T x ⊎ T y
 or-cases true y t = inl tt
@@ -99,18 +90,6 @@ or-cases false y t = inr t
 
 -- a test out of a row of tests that all pass
 ruleset parts = (and-left, and-right)
-
--- sorts that pass the test are one sort
-same-is : (m k : Sort) → T (same m k) → m ≡ k
-same-is arithmetic arithmetic t = refl
-same-is arithmetic boolean t = absurd t
-same-is arithmetic bit t = absurd t
-same-is boolean arithmetic t = absurd t
-same-is boolean boolean t = refl
-same-is boolean bit t = absurd t
-same-is bit arithmetic t = absurd t
-same-is bit boolean t = absurd t
-same-is bit bit t = refl
 
 -- a wire of a sort has a number below the count
 wire-below : (gs : List Gate) (w : ℕ) (m : Sort) → T (isWire gs w m) → w < wires gs .count
@@ -120,7 +99,7 @@ wire-below gs w m t = ltb→lt w (wires gs .count) (search parts)
 -- and it has that sort
 wire-sort : (gs : List Gate) (w : ℕ) (m : Sort) → T (isWire gs w m) → wires gs .sort w ≡ m
 unfolding isWire
-wire-sort gs w m t = same-is (wires gs .sort w) m (search parts)
+wire-sort gs w m t = same-true (wires gs .sort w) m (search parts)
 
 -- a new wire has the next number, which is the count
 next-is : (gs : List Gate) (new : ℕ) → T (isNext gs new) → new ≡ wires gs .count
@@ -163,7 +142,7 @@ converts : (gs : List Gate) (w : ℕ) (from to m : Sort) → ((v : ℕ) → T (f
     → Converts (wires gs) w m
 converts gs w from to m any t = (
   wire-below gs w from (search parts),
-  λ v. subst (λ (k : Sort). T (fitsSort k v)) (sym (same-is m to (search parts))) (any v),
+  λ v. subst (λ (k : Sort). T (fitsSort k v)) (sym (same-true m to (search parts))) (any v),
 )
 
 -- a convert reads a wire and makes a uint

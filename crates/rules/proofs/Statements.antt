@@ -25,17 +25,14 @@ use Rattle.rules.specs.Direct.{direct, Now, keep, blank, follow, begin}
 use Rattle.rules.proofs.Making.{isHeld, topOf, Worth, Good, More, Gives, Wired, more-refl, wired-gives, constant-wired, bring-wired, number-worth, type-kept}
 use Rattle.rules.proofs.Fine.{sizeK, labelK, Free, FineS}
 use Rattle.rules.proofs.Expressions.{AtSort, Cell, Agrees, cell-more, size-pos, below-size, agrees-more, index-below, expr-agrees}
-use Rattle.rules.proofs.Cells.{none≢some, cell-same, put-out, put-in, bind, leave, under, stepped-agrees}
+use Rattle.rules.proofs.Cells.{cell-same, put-out, put-in, bind, leave, under, stepped-agrees}
+use Rattle.rules.proofs.Basics.{true-of, false-of, none≢some}
 
 -- a run and a direct reading in step
 pub record Holds (S : ℕ → Bool) (given : Given) (σ : ℕ → ℕ → Sort) (sc : Scope) (s : State) (d : Now) : Type 0 where
   pub cells : Agrees S given sc (d .cells) s
   pub outs : plain given (s .gates) .outs ≡ d .outs
   pub good : Good σ s
-
-is-false : (b : Bool) → (T b → ⊥) → b ≡ false
-is-false true h = absurd (h tt)
-is-false false h = refl
 
 known-at : (m : Sort) (x : Val) → isHeld x ≡ false → AtSort m x
 known-at m (known t n) e = tt
@@ -72,13 +69,9 @@ module _ (S : ℕ → Bool) (given : Given) (σ : ℕ → ℕ → Sort) where
   wired-cell : (s : State) (b : Known) (m : Made) (v : ℕ) → T (labelK S b) → Wired given σ s (keptAt (typeK b)) m v → Cell S given (m .st) b (m .val) v
   wired-cell s b m v h w = record {
     worth = rw (type-kept given σ (typeK b)) at (wired-gives given σ s (keptAt (typeK b)) m v w .worth);
-    label = ap isHeld (w .wire) ∙ sym (is-true (labelK S b) h);
+    label = ap isHeld (w .wire) ∙ sym (true-of (labelK S b) h);
     sort = subst (AtSort (keptAt (typeK b))) (sym (w .wire)) refl;
   }
-    where
-      is-true : (b : Bool) → T b → b ≡ true
-      is-true true h = refl
-      is-true false h = absurd h
 
   -- a declaration of k: the elements below i are set
   record Filling (k : Known) (x : ℕ) (sc : Scope) (i : ℕ) (s : State) (d : Now) : Type 0 where
@@ -145,7 +138,7 @@ module _ (S : ℕ → Bool) (given : Given) (σ : ℕ → ℕ → Sort) where
   unfolding storeOver keep put
   storeOver-holds sc s d x i b h m v a o hc hi g hb (known t k) n y =
       let q = holds-more sc s (m .st) d (g .more) a in
-      let unheld = is-false (isHeld (m .val)) (λ t. subst T (sym (y .label)) (hb (g .label t))) in
+      let unheld = false-of (isHeld (m .val)) (λ t. subst T (sym (y .label)) (hb (g .label t))) in
       record {
         cells = put-in S given sc (d .cells) (m .st) x i (m .val) v b o hc hi (q .cells)
             (record { worth = g .worth; label = unheld ∙ y .label; sort = known-at (keptAt (typeK b)) (m .val) unheld });

@@ -13,7 +13,8 @@ use Rattle.words.specs.Words.{AllWords}
 use Rattle.rules.specs.Places.{fault, failingBelow}
 use Rattle.rules.specs.Text.{isDigit, digitOf, fitsColumn, fitsTo, isLine, hexAt, lineWords, lineCount, textWords, check12, digitFor, hexOf, lineOf, textOf}
 use Rattle.rules.specs.Answers.{failing12}
-use Rattle.rules.proofs.Places.{true-of, below-none, none-below}
+use Rattle.rules.proofs.Places.{below-none, none-below}
+use Rattle.rules.proofs.Basics.{true-of}
 
 -- the digit of a number below 16 is a digit: the sixteen are tried
 digit-is : (n : ℕ) → n < 16 → T (isDigit (digitFor n))

@@ -10,22 +10,24 @@ use Rattle.rules.specs.Places.{Verdict, accepted}
 use Rattle.rules.specs.Labels.{allRules, allInputs, Closed, Secret}
 use Rattle.rules.specs.Gates.{Gate, circuitWords, wires, AllKeep}
 use Rattle.rules.specs.Run.{State, start}
-use Rattle.rules.specs.Plain.{Given, plain}
+use Rattle.rules.specs.Plain.{Given, inputs, plain}
 use Rattle.rules.specs.Direct.{follow, begin}
 use Rattle.rules.specs.Accesses.{AllBelow, readAccesses, runAccesses}
 use Rattle.rules.specs.Shares.{shared, Fit, Private}
 use Rattle.rules.specs.Text.{textOf, textWords, lineCount}
-use Rattle.rules.specs.Answers.{failing12, programOf, sitesOf, secretIn, built, compile, compileAnswer, compileLeaves, failing20, failing21}
+use Rattle.rules.specs.Answers.{failing12, gatesOf, FitInputs, programOf, sitesOf, secretIn, built, compile, compileAnswer, compileLeaves, failing20, failing21}
 use Rattle.rules.specs.Answers.{Lent, Evaluation, evaluate, evaluateAnswer, leavesOne, leavesTwo, leavesOuts}
 use Rattle.rules.specs.Answers.{DirectReading, readDirectly, directAnswer, directLeaves, readText, textAnswer, textLeaves}
 use Rattle.rules.specs.Refusals.{Compiles, Evaluates, Reads, ReadsText}
-use Rattle.rules.specs.Cases.{AllHold, cases, slips}
+use Rattle.rules.specs.Cases.{AllHold, cases, listings, slips}
 use Rattle.rules.proofs.Refusals.{compiles, evaluates, reads-directly, reads-text}
 use Rattle.rules.proofs.Accepted.{same-outs, accesses-below, counts-wires, never-refused, labels-closed, labels-least}
 use Rattle.rules.proofs.AsEvaluate.{lentFor, direct-as-evaluate}
 use Rattle.rules.proofs.Shares.{demand-three, same-outputs}
 use Rattle.rules.proofs.Memories.{compile-refused-leaves, evaluate-refused-leaves, direct-refused-leaves, text-refused-leaves}
 use Rattle.rules.proofs.Memories.{compile-refused-counts, evaluate-refused-counts, direct-refused-counts, text-refused-counts}
+use Rattle.rules.proofs.Memories.{zero-accepts, accepts-zero, compile-numbered, evaluate-numbered, direct-numbered, text-numbered}
+use Rattle.rules.proofs.Evaluated.{evaluated-private}
 use Rattle.rules.proofs.Texts.{text-read-back, never-12}
 use Rattle.rules.proofs.Memories.{compile-accepted-leaves, evaluate-accepted-leaves, direct-accepted-leaves, text-accepted-leaves}
 use Rattle.rules.proofs.Memories.{compile-length, evaluate-length, direct-length, text-length}
@@ -44,6 +46,23 @@ direct-by-cases = reads-directly
 
 pub text-by-cases : (text table : List ℕ) (v : Verdict (List ℕ)) → ReadsText text table v ↔ (readText text table ≡ v)
 text-by-cases = reads-text
+
+-- The number 0 means acceptance.
+pub compile-zero : (t circuit : List ℕ) → (compileAnswer t circuit .number ≡ 0) ↔ ((s : State) × (compile t circuit ≡ accepted s))
+unfolding compileAnswer
+compile-zero t circuit = (zero-accepts (compile t circuit) (compile-numbered t circuit), λ a. accepts-zero (a .1))
+
+pub evaluate-zero : (l : Lent) → (evaluateAnswer l .number ≡ 0) ↔ ((d : Evaluation) × (evaluate l ≡ accepted d))
+unfolding evaluateAnswer
+evaluate-zero l = (zero-accepts (evaluate l) (evaluate-numbered l), λ a. accepts-zero (a .1))
+
+pub direct-zero : (t i1 i2 o : List ℕ) → (directAnswer t i1 i2 o .number ≡ 0) ↔ ((f : DirectReading) × (readDirectly t i1 i2 o ≡ accepted f))
+unfolding directAnswer
+direct-zero t i1 i2 o = (zero-accepts (readDirectly t i1 i2 o) (direct-numbered t i1 i2 o), λ a. accepts-zero (a .1))
+
+pub text-zero : (text table : List ℕ) → (textAnswer text table .number ≡ 0) ↔ ((ws : List ℕ) × (readText text table ≡ accepted ws))
+unfolding textAnswer
+text-zero text table = (zero-accepts (readText text table) (text-numbered text table), λ a. accepts-zero (a .1))
 
 module _ (table : List ℕ) {s : State} (yes : built table ≡ accepted s) where
   -- 2. Demand 2 of an accepted table: for all inputs the outputs of its circuit, read plainly, are those of reading the
@@ -87,6 +106,12 @@ demand-3 = demand-three
 pub shared-outputs : (gs : List Gate) → AllKeep gs → AllWords (circuitWords gs) → {given : Given} → Fit gs given
     → (tape : List ℕ) → ((k : ℕ) → getD tape k 0 < 2 ^ 32) → shared given tape gs .outs ≡ plain given gs .outs
 shared-outputs = same-outputs
+
+-- The same of what evaluation accepts: a circuit whose gates pass 21, and any two sets of inputs with neither 22 nor 23.
+pub demand-3-of-evaluation : (circuit i1 i2 j1 j2 : List ℕ) → AllBytes circuit → AllBytes i1 → AllBytes i2 → AllBytes j1 → AllBytes j2
+    → failing21 (words circuit) ≡ [] → FitInputs circuit i1 i2 → FitInputs circuit j1 j2
+    → Private (gatesOf circuit) (inputs (words i1) (words i2)) (inputs (words j1) (words j2))
+demand-3-of-evaluation = evaluated-private
 
 -- 6. A refusal's memory is the memory before.
 pub compile-refusal-leaves : (t circuit : List ℕ) → (compileAnswer t circuit .number ≡ 0 → ⊥) → compileLeaves t circuit ≡ circuit
@@ -150,9 +175,12 @@ pub text-reads-back : (ws : List ℕ) → AllWords ws → length ws % 4 ≡ 0
     → (textWords (textOf ws) (lineCount (textOf ws)) ≡ ws) × (failing12 (textOf ws) ≡ [])
 text-reads-back ws h e = (text-read-back ws h e, never-12 ws)
 
--- The P cases as one list under one statement, and the likely slips.
+-- The P cases as one list under one statement; case sum as text; and the likely slips.
 pub all-cases-hold : AllHold cases
 all-cases-hold = proved.all-hold
+
+pub all-listings-hold : AllHold listings
+all-listings-hold = proved.listings-hold
 
 pub all-slips-hold : AllHold slips
 all-slips-hold = proved.slips-hold

@@ -1,5 +1,5 @@
--- Both sides of each line: the cases of document 01 marked P, as one list under one statement, of tables' bytes. After them
--- its likely slips, under the same statement.
+-- Document 01, "Both sides of each line": the cases marked P, as one list under one statement, of tables' bytes. After them
+-- case sum of "Text" and the "Likely slips", under the same statement.
 use Prim.Native.Nat.{ℕ, _+_, _*_, _%_, _^_}
 use mathlib.Core.Path.{_≡_}
 use mathlib.Core.List.{List, [], _∷_, _++_}
@@ -40,9 +40,9 @@ pub record Differing : Type 0 where
   pub inputs2 : List ℕ
   pub changes : List Change
 
--- prints: a table's text, and what the printing program prints. compiles: a table, and what compile answers. spares: a
--- table, the bytes lent for its circuit, and what compile answers; it leaves those bytes as they are. evaluates: an
--- evaluation. pairs: two of them, which look the same to desk two. differ: how tapes differ from their partners
+-- compiles: a table, and what compile answers. spares: a table, the bytes lent for its circuit, and what compile answers; it
+-- leaves those bytes as they are. evaluates: an evaluation. pairs: two of them, which look the same to desk two. differ: how
+-- tapes differ from their partners. prints: a table's text, and what the printing program prints
 pub data Case : Type 0 where
   compiles : List ℕ → Compiled → Case
   spares : List ℕ → List ℕ → Compiled → Case
@@ -341,9 +341,6 @@ cases =
     compiles sum (compiledWith 4 3 1)
     -- sum: inputs 7 and 5, tape 10, 20, 30: desk one 10, 20, 30; desk two 4294967293, 4294967281, 4294967278; output 12
     ∷ evaluates sumOf7And5
-    -- sum, printed (section "Text"); and a text whose last LF is missing
-    ∷ prints sumText sumListing
-    ∷ prints openText openListing
     -- no words: 1
     ∷ compiles [] (refusedWith 1 0)
     -- array of 4, loop 0 to 3, index the loop's name: accepted (of a write, then of a read; so below)
@@ -374,6 +371,10 @@ cases =
     -- loop 0 to 332 holding two declarations, in a loop 0 to 998: 1,000,000 steps, accepted
     ∷ compiles million (compiledWith 0 0 1000000)
     ∷ []
+
+-- Case sum of the section "Text", printed; and a text whose last LF is missing.
+unfoldable pub listings : List Case
+listings = prints sumText sumListing ∷ prints openText openListing ∷ []
 
 -- The tables of the likely slips. A loop 5 to 4 that assigns to a name that is nowhere declared.
 unfoldable pub idleUnknown : List ℕ

@@ -11,7 +11,7 @@ use Rattle.rules.specs.Sorts.{applied, arm}
 use Rattle.rules.specs.Run.{turns}
 use Rattle.rules.specs.Plain.{Given}
 
--- Figure 3: an expression, over cells, 64 for each name. Of a cond only the chosen arm counts
+-- Figure 3: an expression, over cells, 64 for each name. Of a cond only the chosen arm is read
 unfoldable pub direct : Given → Expr → List ℕ → ℕ
 direct given (number r n) c = n
 direct given (truth r n) c = n

@@ -1,6 +1,5 @@
--- Document 01, "Names, labels, indexes": which rows are secret. Inputs are; and a rule reads "if row a is secret, so is row
--- b". Of all sets of rows with the inputs and these rules, the secret rows are the smallest. With "Order of refusals", check
--- 7.
+-- Document 01, "Names, labels, indexes": which rows are secret. Inputs are; and a rule reads "if row a is secret, row b is".
+-- Of all sets of rows with the inputs and these rules, the secret rows are the smallest. Check 7.
 use Prim.Native.Nat.{ℕ, zero, suc}
 use mathlib.Core.Bool.{Bool, true, false, not, _||_}
 use mathlib.Core.Option.{Option, none, some}
@@ -69,42 +68,42 @@ allInputs [] = []
 allInputs (s ∷ ss) = inputsOf (s .node) ++ allInputs ss
 
 -- A set of rows is closed: it has the inputs and keeps the rules.
-abbrev pub Has : (ℕ → Bool) → List ℕ → Type 0
+abbrev pub Has : (Row → Bool) → List Row → Type 0
 Has S [] = Unit {0}
 Has S (r ∷ rs) = T (S r) × Has S rs
 
-abbrev pub Keeps : (ℕ → Bool) → List Rule → Type 0
+abbrev pub Keeps : (Row → Bool) → List Rule → Type 0
 Keeps S [] = Unit {0}
 Keeps S (p ∷ ps) = (T (S (p .from)) → T (S (p .to))) × Keeps S ps
 
-pub record Closed (ins : List ℕ) (rs : List Rule) (S : ℕ → Bool) : Type 0 where
+pub record Closed (ins : List Row) (rs : List Rule) (S : Row → Bool) : Type 0 where
   pub sources : Has S ins
   pub keeps : Keeps S rs
 
 -- A row is secret: it is in every closed set.
-unfoldable pub Secret : List Site → ℕ → Type 0
-Secret ss r = (S : ℕ → Bool) → Closed (allInputs ss) (allRules ss) S → T (S r)
+unfoldable pub Secret : List Site → Row → Type 0
+Secret ss r = (S : Row → Bool) → Closed (allInputs ss) (allRules ss) S → T (S r)
 
 -- The same, computed (that it is the same is a theorem): a row is in a list; what the rules add to a list; and as many
 -- passes as there are rows.
-unfoldable pub has : List ℕ → ℕ → Bool
+unfoldable pub has : List Row → Row → Bool
 has [] r = false
 has (x ∷ xs) r = eqb x r || has xs r
 
-unfoldable pub fired : List Rule → List ℕ → List ℕ
+unfoldable pub fired : List Rule → List Row → List Row
 fired [] S = []
 fired (p ∷ ps) S = elim (has S (p .from)) [ true ↦ p .to ∷ fired ps S | false ↦ fired ps S ]
 
-unfoldable pub passes : ℕ → List ℕ → List Rule → List ℕ
+unfoldable pub passes : ℕ → List Row → List Rule → List Row
 passes zero ins rs = []
 passes (suc n) ins rs = ins ++ fired rs (passes n ins rs)
 
 -- the secret rows of a program of n rows
-unfoldable pub secrets : ℕ → List Site → List ℕ
+unfoldable pub secrets : ℕ → List Site → List Row
 secrets n ss = passes n (allInputs ss) (allRules ss)
 
 -- check 7: a secret index, or a secret guard of an if
-unfoldable pub public : (ℕ → Bool) → Node → Bool
+unfoldable pub public : (Row → Bool) → Node → Bool
 public S (ofE (number r n)) = true
 public S (ofE (truth r n)) = true
 public S (ofE (name r x)) = true
@@ -120,5 +119,5 @@ public S (ofS (branch r g a b)) = not (S (rowE g))
 public S (ofS (out r e)) = true
 public S (ofS (then r a b)) = true
 
-unfoldable pub check7 : (ℕ → Bool) → Site → Bool
+unfoldable pub check7 : (Row → Bool) → Site → Bool
 check7 S s = public S (s .node)

@@ -5,9 +5,8 @@ use mathlib.Core.Bool.{Bool, true, false, not}
 use mathlib.Core.Option.{Option, none, some}
 use Rattle.rules.specs.Tree.{number, truth, name, two, choose, element, input}
 use Rattle.rules.specs.Tree.{declare, assign, loop, write, branch, out, then}
-use Rattle.rules.specs.Scope.{Known, declared, looped, lookup}
+use Rattle.rules.specs.Scope.{Known, declared, looped, Scope, lookup}
 use Rattle.rules.specs.Sites.{Node, ofE, ofS, Site}
-use Rattle.rules.specs.Scope.{Scope}
 
 -- a name is in scope; it is in scope by a declaration, not as a loop's name
 abbrev pub isFound : Option Known → Bool

@@ -1,5 +1,4 @@
--- Document 01, "Order of refusals": a check runs over the whole table before the next, and the place is the lowest that
--- fails.
+-- Document 01, "Order of refusals": a check runs over the whole before the next, and the place is the lowest that fails.
 use Prim.Native.Nat.{ℕ, zero, suc, min}
 use mathlib.Core.Bool.{Bool, true, false}
 use mathlib.Core.List.{List, [], _∷_, _++_}

@@ -36,22 +36,22 @@ tableChecks t =
     failing1 t ∷ failing2 t ∷ failing3 t ∷ failing4 t ∷ failing5 t ∷ failing6 t ∷ failing7 t ∷ failing8 t ∷ failing9 t ∷ failing10 t ∷ []
 
 pub data Builds (t : List ℕ) : Verdict State → Type 0 where
-  no-1 : {p : ℕ} → Lowest p (failing1 t) → Builds t (refused 1 p)
-  no-2 : {p : ℕ} → Clear (take 1 (tableChecks t)) → Lowest p (failing2 t) → Builds t (refused 2 p)
-  no-3 : {p : ℕ} → Clear (take 2 (tableChecks t)) → Lowest p (failing3 t) → Builds t (refused 3 p)
-  no-4 : {p : ℕ} → Clear (take 3 (tableChecks t)) → Lowest p (failing4 t) → Builds t (refused 4 p)
-  no-5 : {p : ℕ} → Clear (take 4 (tableChecks t)) → Lowest p (failing5 t) → Builds t (refused 5 p)
-  no-6 : {p : ℕ} → Clear (take 5 (tableChecks t)) → Lowest p (failing6 t) → Builds t (refused 6 p)
-  no-7 : {p : ℕ} → Clear (take 6 (tableChecks t)) → Lowest p (failing7 t) → Builds t (refused 7 p)
-  no-8 : {p : ℕ} → Clear (take 7 (tableChecks t)) → Lowest p (failing8 t) → Builds t (refused 8 p)
-  no-9 : {p : ℕ} → Clear (take 8 (tableChecks t)) → Lowest p (failing9 t) → Builds t (refused 9 p)
-  no-10 : {p : ℕ} → Clear (take 9 (tableChecks t)) → Lowest p (failing10 t) → Builds t (refused 10 p)
+  with-1 : {p : ℕ} → Lowest p (failing1 t) → Builds t (refused 1 p)
+  with-2 : {p : ℕ} → Clear (take 1 (tableChecks t)) → Lowest p (failing2 t) → Builds t (refused 2 p)
+  with-3 : {p : ℕ} → Clear (take 2 (tableChecks t)) → Lowest p (failing3 t) → Builds t (refused 3 p)
+  with-4 : {p : ℕ} → Clear (take 3 (tableChecks t)) → Lowest p (failing4 t) → Builds t (refused 4 p)
+  with-5 : {p : ℕ} → Clear (take 4 (tableChecks t)) → Lowest p (failing5 t) → Builds t (refused 5 p)
+  with-6 : {p : ℕ} → Clear (take 5 (tableChecks t)) → Lowest p (failing6 t) → Builds t (refused 6 p)
+  with-7 : {p : ℕ} → Clear (take 6 (tableChecks t)) → Lowest p (failing7 t) → Builds t (refused 7 p)
+  with-8 : {p : ℕ} → Clear (take 7 (tableChecks t)) → Lowest p (failing8 t) → Builds t (refused 8 p)
+  with-9 : {p : ℕ} → Clear (take 8 (tableChecks t)) → Lowest p (failing9 t) → Builds t (refused 9 p)
+  with-10 : {p : ℕ} → Clear (take 9 (tableChecks t)) → Lowest p (failing10 t) → Builds t (refused 10 p)
   all-hold : Clear (tableChecks t) → Builds t (accepted (runOf t))
 
 -- compile: as its table is built; then check 11
 pub data Compiles (t circuit : List ℕ) : Verdict State → Type 0 where
   as-built : {k p : ℕ} → Builds t (refused k p) → Compiles t circuit (refused k p)
-  no-11 : {p : ℕ} {s : State} → Builds t (accepted s) → Lowest p (failing11 s circuit) → Compiles t circuit (refused 11 p)
+  with-11 : {p : ℕ} {s : State} → Builds t (accepted s) → Lowest p (failing11 s circuit) → Compiles t circuit (refused 11 p)
   all-hold : {s : State} → Builds t (accepted s) → Clear (failing11 s circuit ∷ []) → Compiles t circuit (accepted s)
 
 -- evaluate: checks 20 to 25
@@ -73,12 +73,12 @@ module _ (l : Lent) where
       ∷ []
 
 pub data Evaluates (l : Lent) : Verdict Evaluation → Type 0 where
-  no-20 : {p : ℕ} → Lowest p (failing20 (l .circuit)) → Evaluates l (refused 20 p)
-  no-21 : {p : ℕ} → Clear (take 1 (evaluateChecks l)) → Lowest p (failing21 (words (l .circuit))) → Evaluates l (refused 21 p)
-  no-22 : {p : ℕ} → Clear (take 2 (evaluateChecks l)) → Lowest p (failing22 (words (l .circuit)) (given1 l) (given2 l)) → Evaluates l (refused 22 p)
-  no-23 : {p : ℕ} → Clear (take 3 (evaluateChecks l)) → Lowest p (failing23 (words (l .circuit)) (given1 l) (given2 l)) → Evaluates l (refused 23 p)
-  no-24 : {p : ℕ} → Clear (take 4 (evaluateChecks l)) → Lowest p (failing24 (gatesOf (l .circuit)) (l .tape)) → Evaluates l (refused 24 p)
-  no-25 : {p : ℕ} → Clear (take 5 (evaluateChecks l)) → Lowest p (failing25 (gatesOf (l .circuit)) (l .shares1) (l .shares2) (l .outputs))
+  with-20 : {p : ℕ} → Lowest p (failing20 (l .circuit)) → Evaluates l (refused 20 p)
+  with-21 : {p : ℕ} → Clear (take 1 (evaluateChecks l)) → Lowest p (failing21 (words (l .circuit))) → Evaluates l (refused 21 p)
+  with-22 : {p : ℕ} → Clear (take 2 (evaluateChecks l)) → Lowest p (failing22 (words (l .circuit)) (given1 l) (given2 l)) → Evaluates l (refused 22 p)
+  with-23 : {p : ℕ} → Clear (take 3 (evaluateChecks l)) → Lowest p (failing23 (words (l .circuit)) (given1 l) (given2 l)) → Evaluates l (refused 23 p)
+  with-24 : {p : ℕ} → Clear (take 4 (evaluateChecks l)) → Lowest p (failing24 (gatesOf (l .circuit)) (l .tape)) → Evaluates l (refused 24 p)
+  with-25 : {p : ℕ} → Clear (take 5 (evaluateChecks l)) → Lowest p (failing25 (gatesOf (l .circuit)) (l .shares1) (l .shares2) (l .outputs))
       → Evaluates l (refused 25 p)
   all-hold : Clear (evaluateChecks l) → Evaluates l (accepted (evaluation (gatesOf (l .circuit)) (inputs (given1 l) (given2 l)) (words (l .tape))))
 
@@ -92,11 +92,11 @@ directChecks s i1 i2 o =
 
 pub data Reads (t i1 i2 o : List ℕ) : Verdict DirectReading → Type 0 where
   as-built : {k p : ℕ} → Builds t (refused k p) → Reads t i1 i2 o (refused k p)
-  no-22 : {p : ℕ} {s : State} → Builds t (accepted s) → Lowest p (failing22 (circuitWords (s .gates)) (words i1) (words i2))
+  with-22 : {p : ℕ} {s : State} → Builds t (accepted s) → Lowest p (failing22 (circuitWords (s .gates)) (words i1) (words i2))
       → Reads t i1 i2 o (refused 22 p)
-  no-23 : {p : ℕ} {s : State} → Builds t (accepted s) → Clear (take 1 (directChecks s i1 i2 o))
+  with-23 : {p : ℕ} {s : State} → Builds t (accepted s) → Clear (take 1 (directChecks s i1 i2 o))
       → Lowest p (failing23 (circuitWords (s .gates)) (words i1) (words i2)) → Reads t i1 i2 o (refused 23 p)
-  no-25 : {p : ℕ} {s : State} → Builds t (accepted s) → Clear (take 2 (directChecks s i1 i2 o)) → Lowest p (failingDirect s o)
+  with-25 : {p : ℕ} {s : State} → Builds t (accepted s) → Clear (take 2 (directChecks s i1 i2 o)) → Lowest p (failingDirect s o)
       → Reads t i1 i2 o (refused 25 p)
   all-hold : {s : State} → Builds t (accepted s) → Clear (directChecks s i1 i2 o)
       → Reads t i1 i2 o (accepted (record { wires = s .wires; outs = readOuts t (inputs (words i1) (words i2)) }))
@@ -106,7 +106,7 @@ abbrev pub textChecks : List ℕ → List ℕ → List (List ℕ)
 textChecks text table = failingText text ∷ failing12 text ∷ failing13 text table ∷ []
 
 pub data ReadsText (text table : List ℕ) : Verdict (List ℕ) → Type 0 where
-  no-1 : {p : ℕ} → Lowest p (failingText text) → ReadsText text table (refused 1 p)
-  no-12 : {p : ℕ} → Clear (take 1 (textChecks text table)) → Lowest p (failing12 text) → ReadsText text table (refused 12 p)
-  no-13 : {p : ℕ} → Clear (take 2 (textChecks text table)) → Lowest p (failing13 text table) → ReadsText text table (refused 13 p)
+  with-1 : {p : ℕ} → Lowest p (failingText text) → ReadsText text table (refused 1 p)
+  with-12 : {p : ℕ} → Clear (take 1 (textChecks text table)) → Lowest p (failing12 text) → ReadsText text table (refused 12 p)
+  with-13 : {p : ℕ} → Clear (take 2 (textChecks text table)) → Lowest p (failing13 text table) → ReadsText text table (refused 13 p)
   all-hold : Clear (textChecks text table) → ReadsText text table (accepted (textWords text (lineCount text)))

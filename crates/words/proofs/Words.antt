@@ -182,3 +182,8 @@ bytes-are-words (a ∷ b ∷ c ∷ d ∷ rest) h = (
   omega (arith, h .0, h .1 .0, h .1 .1 .0, h .1 .1 .1 .0),
   bytes-are-words rest (h .1 .1 .1 .1),
 )
+
+-- words and more words
+pub words-both : (xs ys : List ℕ) → AllWords xs → AllWords ys → AllWords (xs ++ ys)
+words-both [] ys p q = q
+words-both (x ∷ xs) ys p q = (p .0, words-both xs ys (p .1) q)
