@@ -1,24 +1,24 @@
 -- No access passes an end: in a fine program every array access of the direct reading and of the run is below the length.
 use Prim.Native.Nat.{ℕ, zero, suc, _-_, _≤_, _<_}
-use mathlib.Core.Path.{_≡_}
-use mathlib.Core.Bool.{Bool}
+use mathlib.Core.Path.{_≡_, sym, _∙_}
+use mathlib.Core.Bool.{Bool, true, false}
 use mathlib.Core.Option.{some}
 use mathlib.Core.List.{List, [], _∷_, _++_}
 use native.Mathlib.Omega.{arith}
-use Rattle.rules.specs.Rows.{uint}
-use Rattle.rules.specs.Tree.{Expr, number, truth, name, two, choose, element, input}
+use Rattle.rules.specs.Tree.{Expr, number, truth, name, two, choose, element, input, rowE}
 use Rattle.rules.specs.Tree.{Stmt, declare, assign, loop, write, branch, out, then}
 use Rattle.rules.specs.Scope.{Known, Scope, lookup, lengthK, inLoop, after}
 use Rattle.rules.specs.Types.{typeE}
-use Rattle.rules.specs.Sorts.{Sort, arm}
-use Rattle.rules.specs.Run.{Val, known, held, State, numberIn, put, stepped, runE, run}
+use Rattle.rules.specs.Sorts.{Sort, typeAt, muxedAt, sideAt, arm}
+use Rattle.rules.specs.Run.{Val, known, held, State, numberIn, typeV, stepped, entered, bring, runE, run}
 use Rattle.rules.specs.Plain.{Given}
 use Rattle.rules.specs.Direct.{direct, Now, keep, follow}
-use Rattle.rules.specs.Accesses.{Access, access, AllBelow, gathered, readAccessesE, readAccesses, byGuard, runAccessesE, runAccesses}
-use Rattle.rules.proofs.Making.{number-worth}
+use Rattle.rules.specs.Accesses.{Access, access, AllBelow, gathered, readAccessesE, readAccesses, afterSide, byGuard, runAccessesE, runAccesses}
+use Rattle.rules.proofs.Making.{number-worth, bring-wired, type-worth, type-side, type-muxed}
 use Rattle.rules.proofs.Fine.{Free, Indexes, FineE, FineS}
-use Rattle.rules.proofs.Expressions.{Agrees, index-below, expr-agrees}
-use Rattle.rules.proofs.Statements.{Holds, stepped-holds, holds-more, enter, turn-holds, stmt-agrees}
+use Rattle.rules.proofs.Expressions.{Agrees, agrees-more, index-below, expr-agrees}
+use Rattle.rules.proofs.Statements.{turnNow, Holds, stepped-holds, holds-more, enter, turn-holds, stmt-agrees}
+use Rattle.rules.proofs.Loops.{turn}
 
 -- accesses one after another
 below-both : (xs ys : List Access) → AllBelow xs → AllBelow ys → AllBelow (xs ++ ys)
@@ -56,6 +56,18 @@ module _ (S : ℕ → Bool) (given : Given) (σ : ℕ → ℕ → Sort) where
       let v = number-worth given σ (runE S i s .st) (typeE sc i) (runE S i s .val) (direct given i c) (λ t. n .public (g .label t)) (g .worth) in
       rw v (index-below S given σ sc c s a x b e i (n .below))
 
+  -- cells agree after a part is run, and after its value is brought to a sort of its type
+  after-part : (e : Expr) (sc : Scope) (c : List ℕ) (s : State) → FineE S σ sc e → Agrees S given sc c s → Agrees S given sc c (runE S e s .st)
+  after-part e sc c s f a = agrees-more S given σ sc c s (runE S e s .st) (expr-agrees S given σ sc c e f s a .more) a
+
+  after-side : (h : Bool) (o : Sort) (e : Expr) (sc : Scope) (c : List ℕ) (s : State) → typeAt o ≡ typeE sc e → FineE S σ sc e → Agrees S given sc c s
+      → Agrees S given sc c (afterSide h o (runE S e s))
+  after-side false o e sc c s t f a = after-part e sc c s f a
+  after-side true o e sc c s t f a =
+      let g = expr-agrees S given σ sc c e f s a in
+      let w = bring-wired given σ (S (rowE e)) o s (runE S e s) (direct given e c) (rw (← t) at g) in
+      agrees-more S given σ sc c s (bring o (runE S e s) .st) (w .more) a
+
   -- the run of a fine expression
   run-expr-below : (e : Expr) (sc : Scope) (c : List ℕ) (s : State) → FineE S σ sc e → Agrees S given sc c s → AllBelow (runAccessesE S sc s e)
   unfolding runAccessesE
@@ -63,14 +75,24 @@ module _ (S : ℕ → Bool) (given : Given) (σ : ℕ → ℕ → Sort) where
   run-expr-below (truth r n) sc c s f a = tt
   run-expr-below (name r x) sc c s f a = tt
   run-expr-below (two r o e g) sc c s f a =
-      below-both (runAccessesE S sc s e) (runAccessesE S sc s g) (run-expr-below e sc c s (f .1) a) (run-expr-below g sc c s (f .2) a)
+      let u = afterSide (S r) (sideAt o) (runE S e s) in
+      below-both (runAccessesE S sc s e) (runAccessesE S sc u g) (run-expr-below e sc c s (f .1) a)
+      (run-expr-below g sc c u (f .2) (after-side (S r) (sideAt o) e sc c s (type-side given σ o ∙ sym (f .0 .left-uint)) (f .1) a))
   run-expr-below (choose r k e g) sc c s f a =
-      below-both (runAccessesE S sc s k) (byGuard (runE S k s .val) (runAccessesE S sc s e) (runAccessesE S sc s g)) (run-expr-below k sc c s (f .1) a)
-      (by-guard (runE S k s .val) (run-expr-below e sc c s (f .2) a) (run-expr-below g sc c s (f .3) a))
+      let p = runE S k s in
+      let agreed = after-part k sc c s (f .1) a in
+      let u = runE S e (p .st) in
+      let m = muxedAt (typeV (u .val)) in
+      let t = type-worth given σ (u .st) (typeE sc e) (u .val) (direct given e c) (expr-agrees S given σ sc c e (f .2) (p .st) agreed .worth) in
+      let later = after-side true m e sc c (p .st) (type-muxed given σ (typeV (u .val)) ∙ t) (f .2) agreed in
+      below-both (runAccessesE S sc s k) (byGuard (p .val) (runAccessesE S sc (p .st) e) (runAccessesE S sc (p .st) g) (runAccessesE S sc (afterSide true m u) g))
+      (run-expr-below k sc c s (f .1) a)
+      (by-guard (p .val) (runAccessesE S sc (p .st) e) (runAccessesE S sc (p .st) g) (runAccessesE S sc (afterSide true m u) g)
+      (run-expr-below e sc c (p .st) (f .2) agreed) (run-expr-below g sc c (p .st) (f .3) agreed) (run-expr-below g sc c (afterSide true m u) (f .3) later))
     where
-      by-guard : (v : Val) → AllBelow (runAccessesE S sc s e) → AllBelow (runAccessesE S sc s g) → AllBelow (byGuard v (runAccessesE S sc s e) (runAccessesE S sc s g))
-      by-guard (known t n) p q = below-arm n (runAccessesE S sc s e) (runAccessesE S sc s g) p q
-      by-guard (held w m) p q = below-both (runAccessesE S sc s e) (runAccessesE S sc s g) p q
+      by-guard : (v : Val) (first second later : List Access) → AllBelow first → AllBelow second → AllBelow later → AllBelow (byGuard v first second later)
+      by-guard (known t n) first second later x y z = below-arm n first second x y
+      by-guard (held w m) first second later x y z = below-both first later x z
   run-expr-below (element r x i) sc c s f a =
       below-both (runAccessesE S sc s i) (access sc x (numberIn (runE S i s .val)) ∷ []) (run-expr-below i sc c s (f .2) a)
       (rw (f .0 .found) (run-index i sc c s x (f .0 .is) (f .0 .found) (f .1) (f .2) a), tt)
@@ -87,25 +109,19 @@ module _ (S : ℕ → Bool) (given : Given) (σ : ℕ → ℕ → Sort) where
     abbrev readIn : ℕ → Now → List Access
     readIn i u = readAccesses given (inLoop r x l sc) p (keep x 0 i u)
 
-    abbrev readTurn : ℕ → Now → Now
-    readTurn i u = follow given p (keep x 0 i u)
-
     abbrev runIn : ℕ → State → List Access
-    runIn i u = runAccesses S (inLoop r x l sc) p (put x 0 (known uint i) (stepped u))
-
-    abbrev runTurn : ℕ → State → State
-    runTurn i u = run S p (put x 0 (known uint i) (stepped u))
+    runIn i u = runAccesses S (inLoop r x l sc) p (entered x i u)
 
     turns-below : (n i : ℕ) (s : State) (d : Now) → n ≤ suc l - i → Holds S given σ sc s d
-        → AllBelow (gathered readIn readTurn n i d) × AllBelow (gathered runIn runTurn n i s)
+        → AllBelow (gathered readIn (turnNow given x p) n i d) × AllBelow (gathered runIn (turn S x p) n i s)
     unfolding gathered
     turns-below zero i s d h a = (tt, tt)
     turns-below (suc n) i s d h a =
         let all = stmt-agrees S given σ p (inLoop r x l sc) fine in
-        let b = body (put x 0 (known uint i) (stepped s)) (keep x 0 i d) (enter S given σ sc r x l p o top fine all i s d (omega arith) a) in
-        let rest = turns-below n (suc i) (runTurn i s) (readTurn i d) (omega arith) (turn-holds S given σ sc r x l p o top fine all i s d (omega arith) a) in (
-          below-both (readIn i d) (gathered readIn readTurn n (suc i) (readTurn i d)) (b .read) (rest .0),
-          below-both (runIn i s) (gathered runIn runTurn n (suc i) (runTurn i s)) (b .run) (rest .1),
+        let b = body (entered x i s) (keep x 0 i d) (enter S given σ sc r x l p o top fine all i s d (omega arith) a) in
+        let rest = turns-below n (suc i) (turn S x p i s) (turnNow given x p i d) (omega arith) (turn-holds S given σ sc r x l p o top fine all i s d (omega arith) a) in (
+          below-both (readIn i d) (gathered readIn (turnNow given x p) n (suc i) (turnNow given x p i d)) (b .read) (rest .0),
+          below-both (runIn i s) (gathered runIn (turn S x p) n (suc i) (turn S x p i s)) (b .run) (rest .1),
         )
 
   pub stmt-below : (p : Stmt) (sc : Scope) → FineS S σ sc p → (s : State) (d : Now) → Holds S given σ sc s d → Below sc p s d

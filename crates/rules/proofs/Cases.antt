@@ -20,7 +20,7 @@ use Rattle.rules.specs.Sorts.{sortNumbered, applied, arm}
 use Rattle.rules.specs.Gates.{Gate, circuitWords, gateKinds, gateOf, gateWord, gateAt, gateCount, gatesTo, sortMade, wired, wires}
 use Rattle.rules.specs.Gates.{isWire, isNext, clashes, keepsRules, check21, circuitFits}
 use Rattle.rules.specs.Run.{State, cell, put, stepped, make, converted, bringVal, bring, sided, kept, muxedTo, muxed, guarded, runE}
-use Rattle.rules.specs.Run.{first, firsts, storeOver, store, putWire, putVal, turns, run, start}
+use Rattle.rules.specs.Run.{first, firsts, storeOver, store, putWire, putVal, entered, turns, run, start}
 use Rattle.rules.specs.Plain.{inputs, valueOf, noted, plain}
 use Rattle.rules.specs.Direct.{direct, keep, blank, follow, begin}
 use Rattle.rules.specs.Shares.{Tape, taken, tapeFor, dealt, shared, listed, sharesOne, sharesTwo, partner}
@@ -65,7 +65,7 @@ unfolding
     over lowest unless andThen
     applied arm
     cell put stepped make converted bringVal bring sided kept muxedTo muxed guarded runE
-    first firsts storeOver store putWire putVal turns run start
+    first firsts storeOver store putWire putVal entered turns run start
     circuitWords
     runOf failing9 failing10 failing11 built compile compileAnswer compileLeaves
 compiling = tt

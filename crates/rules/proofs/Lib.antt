@@ -11,10 +11,11 @@ pub mod Labels
 -- what the checks say of a program, part by part
 pub mod Formed
 pub mod InputSorts
-pub mod Sited
 pub mod Fine
 pub mod Checked
+pub mod Sited
 -- the run agrees with the direct reading, and makes gates that keep the rules
+pub mod Loops
 pub mod Making
 pub mod Acts
 pub mod Expressions
@@ -36,6 +37,5 @@ pub mod Memories
 pub mod Texts
 pub mod AsEvaluate
 -- the paper's cases
-pub mod Loops
 pub mod Cases
 pub mod Theorems

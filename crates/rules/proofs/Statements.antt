@@ -11,7 +11,7 @@ use lib.Seq.{getD-set-same, getD-set-other}
 use borrow.Author.Tests.{eqb-true, eqb-false}
 use native.Mathlib.Omega.{arith}
 use native.Mathlib.Nat.{add-zero, add-suc, suc-add}
-use Rattle.rules.specs.Rows.{Ty, uint}
+use Rattle.rules.specs.Rows.{Name, Ty, uint}
 use Rattle.rules.specs.Tree.{rowE}
 use Rattle.rules.specs.Tree.{Stmt, declare, assign, loop, write, branch, out, then}
 use Rattle.rules.specs.Scope.{Known, declared, looped, Scope, lookup, elements, typeK, inLoop, after}
@@ -19,7 +19,7 @@ use Rattle.rules.specs.Types.{typeE}
 use Rattle.rules.specs.Counts.{countK}
 use Rattle.rules.specs.Sorts.{Sort, keptAt, typeAt, arm}
 use Rattle.rules.specs.Gates.{constant, wires, wired, keepsRules}
-use Rattle.rules.specs.Run.{Val, known, held, State, Made, wireIn, numberIn, make, bring, cell, put, stepped, first, firsts, storeOver, store, putWire, putVal, turns, runE, run, start}
+use Rattle.rules.specs.Run.{Val, known, held, State, Made, wireIn, numberIn, make, bring, cell, put, stepped, entered, first, firsts, storeOver, store, putWire, putVal, turns, runE, run, start}
 use Rattle.rules.specs.Plain.{Given, valueOf, noted, plain}
 use Rattle.rules.specs.Direct.{direct, Now, keep, blank, follow, begin}
 use Rattle.rules.proofs.Making.{isHeld, topOf, Worth, Good, More, Gives, Wired, more-refl, wired-gives, constant-wired, bring-wired, number-worth, type-kept}
@@ -27,6 +27,7 @@ use Rattle.rules.proofs.Fine.{sizeK, labelK, Free, FineS}
 use Rattle.rules.proofs.Expressions.{AtSort, Cell, Agrees, cell-more, size-pos, below-size, agrees-more, index-below, expr-agrees}
 use Rattle.rules.proofs.Cells.{cell-same, put-out, put-in, bind, leave, under, stepped-agrees}
 use Rattle.rules.proofs.Basics.{true-of, false-of, none≢some}
+use Rattle.rules.proofs.Loops.{turn}
 
 -- a run and a direct reading in step
 pub record Holds (S : ℕ → Bool) (given : Given) (σ : ℕ → ℕ → Sort) (sc : Scope) (s : State) (d : Now) : Type 0 where
@@ -37,6 +38,10 @@ pub record Holds (S : ℕ → Bool) (given : Given) (σ : ℕ → ℕ → Sort) 
 known-at : (m : Sort) (x : Val) → isHeld x ≡ false → AtSort m x
 known-at m (known t n) e = tt
 known-at m (held w k) e = absurd (let z : _≡_ {A = ℕ} 0 1 = cc in omega arith)
+
+-- one turn of a loop that is read directly
+abbrev pub turnNow : Given → Name → Stmt → ℕ → Now → Now
+turnNow given x p i u = follow given p (keep x 0 i u)
 
 module _ (S : ℕ → Bool) (given : Given) (σ : ℕ → ℕ → Sort) where
   pub holds-more : (sc : Scope) (s u : State) (d : Now) → More given σ s u → Holds S given σ sc s d → Holds S given σ sc u d
@@ -199,18 +204,12 @@ module _ (S : ℕ → Bool) (given : Given) (σ : ℕ → ℕ → Sort) where
   -- one turn of a loop, and all of them
   module _ (sc : Scope) (r x l : ℕ) (p : Stmt) (o : Free sc x) (top : l ≤ 4294967295) (fine : FineS S σ (inLoop r x l sc) p)
       (body : (s : State) (d : Now) → Holds S given σ (inLoop r x l sc) s d → Holds S given σ (after p (inLoop r x l sc)) (run S p s) (follow given p d)) where
-    abbrev turn : ℕ → State → State
-    turn i u = run S p (put x 0 (known uint i) (stepped u))
-
-    abbrev turnNow : ℕ → Now → Now
-    turnNow i u = follow given p (keep x 0 i u)
-
-    pub enter : (i : ℕ) (s : State) (d : Now) → i ≤ l → Holds S given σ sc s d → Holds S given σ (inLoop r x l sc) (put x 0 (known uint i) (stepped s)) (keep x 0 i d)
-    unfolding put keep stepped
+    pub enter : (i : ℕ) (s : State) (d : Now) → i ≤ l → Holds S given σ sc s d → Holds S given σ (inLoop r x l sc) (entered x i s) (keep x 0 i d)
+    unfolding entered put keep stepped
     enter i s d hi a =
         let q = stepped-holds sc s d a in
         record {
-          cells = bind S given sc (set (d .cells) (64 * x + 0) i) (put x 0 (known uint i) (stepped s)) x (looped r l) (o .low) (omega arith)
+          cells = bind S given sc (set (d .cells) (64 * x + 0) i) (entered x i s) x (looped r l) (o .low) (omega arith)
               (put-out S given sc (d .cells) (stepped s) x 0 (known uint i) i (o .low) (omega arith) (o .unknown) (q .cells))
               in-cell capped;
           outs = a .outs;
@@ -218,7 +217,7 @@ module _ (S : ℕ → Bool) (given : Given) (σ : ℕ → ℕ → Sort) where
         }
       where
         in-cell : (j : ℕ) → j < 1
-            → Cell S given (put x 0 (known uint i) (stepped s)) (looped r l) (getD (set (s .cells) (64 * x + 0) (known uint i)) (64 * x + j) (known uint 0)) (getD (set (d .cells) (64 * x + 0) i) (64 * x + j) 0)
+            → Cell S given (entered x i s) (looped r l) (getD (set (s .cells) (64 * x + 0) (known uint i)) (64 * x + j) (known uint 0)) (getD (set (d .cells) (64 * x + 0) i) (64 * x + j) 0)
         in-cell j h =
             let z : j ≡ 0 = omega arith in
             rw (
@@ -230,20 +229,20 @@ module _ (S : ℕ → Bool) (given : Given) (σ : ℕ → ℕ → Sort) where
         capped : l < 4294967295 → getD (set (d .cells) (64 * x + 0) i) (64 * x + 0) 0 ≤ l
         capped h = rw (getD-set-same (d .cells) (64 * x + 0) i 0 (omega (arith, a .cells .now-length, o .low))) hi
 
-    pub turn-holds : (i : ℕ) (s : State) (d : Now) → i ≤ l → Holds S given σ sc s d → Holds S given σ sc (turn i s) (turnNow i d)
+    pub turn-holds : (i : ℕ) (s : State) (d : Now) → i ≤ l → Holds S given σ sc s d → Holds S given σ sc (turn S x p i s) (turnNow given x p i d)
     turn-holds i s d hi a =
-        let q = body (put x 0 (known uint i) (stepped s)) (keep x 0 i d) (enter i s d hi a) in
+        let q = body (entered x i s) (keep x 0 i d) (enter i s d hi a) in
         record {
-          cells = leave S given sc (inLoop r x l sc) (turnNow i d .cells) (turn i s) (under S given sc x (looped r l) (o .unknown))
-              (leave S given (inLoop r x l sc) (after p (inLoop r x l sc)) (turnNow i d .cells) (turn i s) (keeps p (inLoop r x l sc) fine) (q .cells));
+          cells = leave S given sc (inLoop r x l sc) (turnNow given x p i d .cells) (turn S x p i s) (under S given sc x (looped r l) (o .unknown))
+              (leave S given (inLoop r x l sc) (after p (inLoop r x l sc)) (turnNow given x p i d .cells) (turn S x p i s) (keeps p (inLoop r x l sc) fine) (q .cells));
           outs = q .outs;
           good = q .good;
         }
 
-    turns-hold : (n i : ℕ) (s : State) (d : Now) → n ≤ suc l - i → Holds S given σ sc s d → Holds S given σ sc (turns turn n i s) (turns turnNow n i d)
+    turns-hold : (n i : ℕ) (s : State) (d : Now) → n ≤ suc l - i → Holds S given σ sc s d → Holds S given σ sc (turns (turn S x p) n i s) (turns (turnNow given x p) n i d)
     unfolding turns
     turns-hold zero i s d h a = a
-    turns-hold (suc n) i s d h a = turns-hold n (suc i) (turn i s) (turnNow i d) (omega arith) (turn-holds i s d (omega arith) a)
+    turns-hold (suc n) i s d h a = turns-hold n (suc i) (turn S x p i s) (turnNow given x p i d) (omega arith) (turn-holds i s d (omega arith) a)
 
   -- the arm that a guard picks, whose names are unknown after it
   pub branch-holds : (n : ℕ) (p q : Stmt) (sc : Scope) → FineS S σ sc p → FineS S σ sc q

@@ -1,14 +1,14 @@
 -- Demand 2, "no array access passes an end": the array accesses of a direct reading (SE_AREAD, SC_AWRITE) and of a run
 -- (EE_AREAD, EC_AWRITE), the index of each and the array's length, which those rules want it below.
 use Prim.Native.Nat.{ℕ, zero, suc, _-_, _<_}
-use mathlib.Core.Bool.{Bool}
+use mathlib.Core.Bool.{Bool, true, false}
 use mathlib.Core.List.{List, [], _∷_, _++_}
-use Rattle.rules.specs.Rows.{Row, Name, uint}
+use Rattle.rules.specs.Rows.{Row, Name}
 use Rattle.rules.specs.Tree.{Expr, number, truth, name, two, choose, element, input}
 use Rattle.rules.specs.Tree.{Stmt, declare, assign, loop, write, branch, out, then}
 use Rattle.rules.specs.Scope.{Scope, lookup, lengthFound, inLoop, after}
-use Rattle.rules.specs.Sorts.{arm}
-use Rattle.rules.specs.Run.{Val, known, held, State, numberIn, put, stepped, runE, run}
+use Rattle.rules.specs.Sorts.{Sort, muxedAt, sideAt, arm}
+use Rattle.rules.specs.Run.{Val, known, held, State, Made, numberIn, typeV, stepped, entered, bring, runE, run}
 use Rattle.rules.specs.Plain.{Given}
 use Rattle.rules.specs.Direct.{direct, Now, keep, follow}
 
@@ -53,18 +53,27 @@ readAccesses given sc (branch r g a b) s =
 readAccesses given sc (out r e) s = readAccessesE given sc (s .cells) e
 readAccesses given sc (then r a b) s = readAccesses given sc a s ++ readAccesses given (after a sc) b (follow given a s)
 
--- in a run: of a cond with a secret guard both arms. An expression changes no cell, so its parts are looked at in one state
-abbrev pub byGuard : Val → List Access → List Access → List Access
-byGuard (known t n) xs ys = arm n xs ys
-byGuard (held w m) xs ys = xs ++ ys
+-- in a run, each part in the state that it is run in: the second side of an operator after the first is brought to its sort
+abbrev pub afterSide : Bool → Sort → Made → State
+afterSide false m u = u .st
+afterSide true m u = bring m u .st
+
+-- of a cond with a known guard the chosen arm; with a secret one both, the second after the first is brought to its sort
+abbrev pub byGuard : Val → List Access → List Access → List Access → List Access
+byGuard (known t n) first second later = arm n first second
+byGuard (held w m) first second later = first ++ later
 
 unfoldable pub runAccessesE : (Row → Bool) → Scope → State → Expr → List Access
 runAccessesE S sc s (number r n) = []
 runAccessesE S sc s (truth r n) = []
 runAccessesE S sc s (name r x) = []
-runAccessesE S sc s (two r o a b) = runAccessesE S sc s a ++ runAccessesE S sc s b
+runAccessesE S sc s (two r o a b) = runAccessesE S sc s a ++ runAccessesE S sc (afterSide (S r) (sideAt o) (runE S a s)) b
 runAccessesE S sc s (choose r g a b) =
-    runAccessesE S sc s g ++ byGuard (runE S g s .val) (runAccessesE S sc s a) (runAccessesE S sc s b)
+    let p = runE S g s in
+    let u = runE S a (p .st) in
+    let later = afterSide true (muxedAt (typeV (u .val))) u in
+    runAccessesE S sc s g
+    ++ byGuard (p .val) (runAccessesE S sc (p .st) a) (runAccessesE S sc (p .st) b) (runAccessesE S sc later b)
 runAccessesE S sc s (element r x i) = runAccessesE S sc s i ++ access sc x (numberIn (runE S i s .val)) ∷ []
 runAccessesE S sc s (input r t d n) = []
 
@@ -72,8 +81,7 @@ unfoldable pub runAccesses : (Row → Bool) → Scope → Stmt → State → Lis
 runAccesses S sc (declare r x t n) s = []
 runAccesses S sc (assign r x e) s = runAccessesE S sc (stepped s) e
 runAccesses S sc (loop r x b f l) s =
-    gathered (λ i u. runAccesses S (inLoop r x l sc) b (put x 0 (known uint i) (stepped u)))
-    (λ i u. run S b (put x 0 (known uint i) (stepped u))) (suc l - f) f (stepped s)
+    gathered (λ i u. runAccesses S (inLoop r x l sc) b (entered x i u)) (λ i u. run S b (entered x i u)) (suc l - f) f (stepped s)
 runAccesses S sc (write r x i e) s =
     let p = runE S i (stepped s) in
     runAccessesE S sc (stepped s) i ++ (runAccessesE S sc (p .st) e ++ access sc x (numberIn (p .val)) ∷ [])

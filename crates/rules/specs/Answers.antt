@@ -123,7 +123,7 @@ compile table circuit =
     unless 11 (failing11 s circuit) λ u.
     accepted s
 
--- number, place and counts, and the circuit memory afterwards
+-- number, place and counts; below them the circuit memory afterwards
 pub record Compiled : Type 0 where
   pub number : ℕ
   pub place : ℕ

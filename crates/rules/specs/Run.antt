@@ -159,6 +159,10 @@ putVal (known t n) s =
     putWire (wireIn (p .val)) (p .st)
 putVal (held w m) s = putWire w s
 
+-- a loop's turn begins: one step, and the loop's name is i
+unfoldable pub entered : Name → ℕ → State → State
+entered x i s = put x 0 (known uint i) (stepped s)
+
 -- n turns of a loop, from i on
 unfoldable pub turns : {A : Type 0} → (ℕ → A → A) → ℕ → ℕ → A → A
 turns f zero i s = s
@@ -169,7 +173,7 @@ turns f (suc n) i s = turns f n (suc i) (f i s)
 unfoldable pub run : (Row → Bool) → Stmt → State → State
 run S (declare r x t n) s = firsts (S r) t x 0 (elements n) (stepped s)
 run S (assign r x e) s = store x 0 (runE S e (stepped s))
-run S (loop r x b f l) s = turns (λ i u. run S b (put x 0 (known uint i) (stepped u))) (suc l - f) f (stepped s)
+run S (loop r x b f l) s = turns (λ i u. run S b (entered x i u)) (suc l - f) f (stepped s)
 run S (write r x i e) s =
     let p = runE S i (stepped s) in
     store x (numberIn (p .val)) (runE S e (p .st))
