@@ -30,9 +30,9 @@ use Rattle.rules.proofs.Refusals.{built-accepted}
 use Rattle.rules.proofs.Formed.{FormedS, program-formed}
 use Rattle.rules.proofs.Labels.{RowsBelow, ClosedAt, closed, exactly, each-rules}
 use Rattle.rules.proofs.InputSorts.{AtInputSort, inputSort, input-sorts}
-use Rattle.rules.proofs.Sited.{SiteFormed, stmt-sites}
 use Rattle.rules.proofs.Fine.{FineS}
 use Rattle.rules.proofs.Checked.{Passes, fine-stmt}
+use Rattle.rules.proofs.Sited.{SiteFormed, stmt-sites}
 use Rattle.rules.proofs.Making.{AllSound, sound-keeps}
 use Rattle.rules.proofs.Statements.{Holds, stmt-agrees, start-holds}
 use Rattle.rules.proofs.Accesses.{stmt-below}
