@@ -29,6 +29,7 @@ pub mod Accepted
 -- shares, and demand 3
 pub mod Xor
 pub mod Listed
+pub mod Kept
 pub mod Shares
 pub mod Decoded
 pub mod Evaluated
