@@ -16,6 +16,10 @@ pub false-of : (t : Bool) → (T t → ⊥) → t ≡ false
 false-of true h = absurd (h tt)
 false-of false h = refl
 
+pub of-true : (t : Bool) → t ≡ true → T t
+of-true true e = tt
+of-true false e = let z : _≡_ {A = ℕ} 0 1 = cc in omega arith
+
 -- two tests hold together where both do
 pub and-both : (a b : Bool) → T a → T b → T (a && b)
 and-both true b p q = q

@@ -31,6 +31,7 @@ pub mod Xor
 pub mod Listed
 pub mod Kept
 pub mod Shares
+pub mod Earlier
 pub mod Decoded
 pub mod Evaluated
 -- lent memories, text, and direct reading beside evaluation

@@ -159,6 +159,20 @@ failing-last ok n = (
   λ h. rw (h .1) (none-fault (ok n) n (h .0)),
 )
 
+-- the first place that fails is the lowest that does
+pub first-fails : (ok : ℕ → Bool) (i n : ℕ) → failingBelow ok i ≡ [] → i < n → ok i ≡ false → Lowest i (failingBelow ok n)
+first-fails ok i n e l f = record {
+  one-of = in-failing-below ok n i .1 (l, rw f tt);
+  below-all = λ q j. elim (decLe i q) [
+    | yes h ↦ h
+    | no h ↦ absurd (T-not (ok q) (in-failing-below ok n q .0 j .1) (none-below ok i e q (omega arith)))
+  ];
+}
+
+-- where none before a place fails, and it passes, none up to it fails
+pub passes-on : (ok : ℕ → Bool) (i : ℕ) → failingBelow ok i ≡ [] → ok i ≡ true → failingBelow ok (suc i) ≡ []
+passes-on ok i e f = failing-last ok i .1 (rw f tt, e)
+
 -- a check with a lowest failing place refuses there
 pub unless-refused : {A : Type 0} (k : ℕ) (ps : List ℕ) (next : Unit {0} → Verdict A) {p : ℕ} → Lowest p ps → unless k ps next ≡ refused k p
 unfolding unless

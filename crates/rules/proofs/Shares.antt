@@ -160,7 +160,7 @@ values-fit (g ∷ gs) keep ws {given} fit =
 -- The shares.
 
 -- a gate gives the same over values that are the same on the wires that stand
-made-same : (given : Given) (w : Wires) (f g : ℕ → ℕ) → ((k : ℕ) → k < w .count → f k ≡ g k)
+pub made-same : (given : Given) (w : Wires) (f g : ℕ → ℕ) → ((k : ℕ) → k < w .count → f k ≡ g k)
     → (e : Gate) → Kept w e → valueOf given f e ≡ valueOf given g e
 unfolding valueOf
 made-same given w f g same (both o a b new) kept = ap₂ (applied o) (same a (kept .0)) (same b (kept .1))
@@ -194,7 +194,7 @@ module _ (tape : List ℕ) where
       k new (w .count) next below (λ e. ap (λ (x : ℕ). shareTwo m v (taken tape x)) (sym e)) (before k)
 
 -- desk one's share of a wire is its share of the tape word, whatever is given
-one-is : (gs : List Gate) → AllKeep gs → (given : Given) (tape : List ℕ) (k : ℕ) → k < wires gs .count
+pub one-is : (gs : List Gate) → AllKeep gs → (given : Given) (tape : List ℕ) (k : ℕ) → k < wires gs .count
     → shared given tape gs .one k ≡ shareOne (wires gs .sort k) (taken tape k)
 unfolding wires shared
 one-is [] keep given tape = λ k below. absurd (omega arith)
@@ -225,7 +225,7 @@ module _ (given : Given) (tape : List ℕ) (taped : (k : ℕ) → getD tape k 0 
       (joined-is gs (keep .1) (words-before g gs ws) (fit-before g gs fit) two) g (kept-of gs g (keep .0))
 
   -- so desk two's shares are those of the plain values, gate by gate
-  two-is : (gs : List Gate) → AllKeep gs → AllWords (circuitWords gs) → Fit gs given → TwoIs gs
+  pub two-is : (gs : List Gate) → AllKeep gs → AllWords (circuitWords gs) → Fit gs given → TwoIs gs
   unfolding wires shared plain
   two-is [] keep ws fit = λ k below. absurd (omega arith)
   two-is (g ∷ gs) keep ws fit =
@@ -265,7 +265,7 @@ same-outputs (g ∷ gs) keep ws {given} fit tape taped =
 -- Demand 3.
 
 -- words, listed: at every place a word
-listed-words : (n : ℕ) (f : ℕ → ℕ) → ((k : ℕ) → k < n → f k < 4294967296) → (k : ℕ) → getD (listed n f) k 0 < 4294967296
+pub listed-words : (n : ℕ) (f : ℕ → ℕ) → ((k : ℕ) → k < n → f k < 4294967296) → (k : ℕ) → getD (listed n f) k 0 < 4294967296
 listed-words n f words k = go (ltb k n) refl
   where
     go : (t : Bool) → ltb k n ≡ t → getD (listed n f) k 0 < 4294967296

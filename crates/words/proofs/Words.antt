@@ -187,3 +187,25 @@ bytes-are-words (a ∷ b ∷ c ∷ d ∷ rest) h = (
 pub words-both : (xs ys : List ℕ) → AllWords xs → AllWords ys → AllWords (xs ++ ys)
 words-both [] ys p q = q
 words-both (x ∷ xs) ys p q = (p .0, words-both xs ys (p .1) q)
+
+-- the bytes of words are bytes
+pub bytes-of-are-bytes : (ws : List ℕ) → AllBytes (bytesOf ws)
+unfolding bytesOf
+bytes-of-are-bytes [] = tt
+bytes-of-are-bytes (w ∷ ws) = (omega arith, (omega arith, (omega arith, (omega arith, bytes-of-are-bytes ws))))
+
+-- the four bytes of a joined word are those that were joined
+split-of : (a b c d : ℕ) → a < 256 → b < 256 → c < 256 → d < 256
+    → (joined a b c d % 256 ≡ a) × (joined a b c d / 256 % 256 ≡ b) × (joined a b c d / 65536 % 256 ≡ c) × (joined a b c d / 16777216 % 256 ≡ d)
+split-of a b c d ha hb hc hd = (omega arith, omega arith, omega arith, omega arith)
+
+-- bytes that are whole words are the bytes of their words
+pub bytes-read-back : (b : List ℕ) → AllBytes b → length b % 4 ≡ 0 → bytesOf (words b) ≡ b
+unfolding words bytesOf
+bytes-read-back [] h whole = refl
+bytes-read-back (a ∷ []) h whole = absurd (omega arith)
+bytes-read-back (a ∷ b ∷ []) h whole = absurd (omega arith)
+bytes-read-back (a ∷ b ∷ c ∷ []) h whole = absurd (omega arith)
+bytes-read-back (a ∷ b ∷ c ∷ d ∷ rest) h whole =
+    let (p, q, r, s) = split-of a b c d (h .0) (h .1 .0) (h .1 .1 .0) (h .1 .1 .1 .0) in
+    rw (p, q, r, s, bytes-read-back rest (h .1 .1 .1 .1) (omega arith))

@@ -1,0 +1,2 @@
+-- The sharing rule by the number of a sort.
+pub mod Laws
