@@ -1,7 +1,7 @@
 -- What check 21 tests and notes of a gate, beside the rules of the table of gates.
 use Prim.Native.Nat.{ℕ, suc, _+_, _<_}
 use mathlib.Core.Path.{_≡_, refl, sym, ap, subst, _∙_}
-use mathlib.Core.Bool.{Bool, true, false, not, cond, _&&_, _||_, false≢true}
+use mathlib.Core.Bool.{Bool, true, false, not, cond, _&&_, _||_, false≢true, true≢false}
 use mathlib.Core.Option.{Option, none, some}
 use mathlib.Core.List.{List, [], _∷_}
 use lib.Dec.{T, eqb, ltb, ltb→lt}
@@ -19,7 +19,7 @@ use Rattle.rules.proofs.Kept.{kept-of}
 use Rattle.rules.proofs.Earlier.{count-made, sort-before, sort-new}
 use Rattle.circuit.specs.declared.gates.Gate as code
 use Rattle.circuit.specs.declared.gates.Gate.the-variants.{Both, Mux, Constant, Convert, Input, Out, Nothing}
-use Rattle.circuit.specs.Gates.{meantGate}
+use Rattle.circuit.specs.Gates.{meantGate, makesWire}
 use Rattle.circuit.specs.Sorts.{isSort, sortFrom, converts}
 use Rattle.circuit.specs.Noted.{WiresNoted, madeAt, armsAlike, slotOf, otherThan, InputsNoted, InputIn}
 use Rattle.circuit.proofs.SortLaws.{sort-of-number, number-is, number-of-sort}
@@ -277,3 +277,26 @@ input-in (Input d n s new) gs e ok =
     read-sorted (λ g. T (keepsRules gs g) → InputIn (Input d n s new)) (s .0) (λ m. entry d n m (new .0)) e (λ m f. entry-in gs d n m (new .0)) ok
 input-in (Out x) gs e ok = tt
 input-in Nothing gs e ok = tt
+
+-- a gate makes a wire where the code says so,
+pub makes-some : (gate : code.Gate) {g : Gate} → meantGate gate ≡ some g → makesWire gate ≡ true → (new : ℕ) × (makes g ≡ some new)
+makes-some (Both o a b new) e t = read-as (λ g. (n : ℕ) × (makes g ≡ some n)) e (new .0, refl)
+makes-some (Mux x a b new) e t = read-as (λ g. (n : ℕ) × (makes g ≡ some n)) e (new .0, refl)
+makes-some (Constant v s new) e t =
+    read-sorted (λ g. (n : ℕ) × (makes g ≡ some n)) (s .0) (λ m. constant (v .0) m (new .0)) e (λ m is. (new .0, refl))
+makes-some (Convert x s new) e t =
+    read-sorted (λ g. (n : ℕ) × (makes g ≡ some n)) (s .0) (λ m. convert (x .0) m (new .0)) e (λ m is. (new .0, refl))
+makes-some (Input d n s new) e t =
+    read-sorted (λ g. (k : ℕ) × (makes g ≡ some k)) (s .0) (λ m. entry d n m (new .0)) e (λ m is. (new .0, refl))
+makes-some (Out x) e t = absurd (false≢true t)
+makes-some Nothing e t = absurd (false≢true t)
+
+-- and none where it says not
+pub makes-none : (gate : code.Gate) {g : Gate} → meantGate gate ≡ some g → makesWire gate ≡ false → makes g ≡ none
+makes-none (Both o a b new) e t = absurd (true≢false t)
+makes-none (Mux x a b new) e t = absurd (true≢false t)
+makes-none (Constant v s new) e t = absurd (true≢false t)
+makes-none (Convert x s new) e t = absurd (true≢false t)
+makes-none (Input d n s new) e t = absurd (true≢false t)
+makes-none (Out x) e t = read-as (λ g. makes g ≡ none) e refl
+makes-none Nothing {g} e t = absurd (none≢some g e)
