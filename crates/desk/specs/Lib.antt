@@ -1,0 +1,2 @@
+-- What the C interface's structs say.
+pub mod Numbers
