@@ -1,17 +1,16 @@
 -- What the lent memories hold while a circuit is evaluated: nothing at first, then a word more with each gate; the wires' values
 -- are read back from them.
-use Prim.Native.Nat.{ℕ, suc, _+_, _*_, _%_, _^_, _≤_, _<_}
+use Prim.Native.Nat.{ℕ, suc, _+_, _*_, _^_, _≤_, _<_}
 use mathlib.Core.Path.{_≡_, refl, sym, ap, ap₂, _∙_, subst}
 use mathlib.Core.Bool.{cond}
 use mathlib.Core.Option.{Option, none, some}
 use mathlib.Core.List.{List, [], _∷_, _++_, reverse, reverse-cons}
-use lib.Bits.{xor-lt}
 use lib.Dec.{T}
 use lib.ListN.{length, getD, length-reverse, List·getD-append}
 use native.Mathlib.Omega.{arith}
 use Rattle.words.specs.Words.{words, over, putAt, AllWords}
 use Rattle.words.proofs.Words.{put-length, put-over, over-none, words-over, words-both}
-use Rattle.rules.specs.Sorts.{Sort, arithmetic, boolean, bit}
+use Rattle.rules.specs.Sorts.{Sort}
 use Rattle.rules.specs.Gates.{Gate, makes, sortMade, wires, keepsRules}
 use Rattle.rules.specs.Plain.{Given, valueOf, but}
 use Rattle.rules.specs.Shares.{shareOne, shareTwo, taken, joinedAt, dealt, shared, listed, sharesOne, sharesTwo}
@@ -20,25 +19,11 @@ use Rattle.rules.proofs.Listed.{length-listed, getD-listed, listed-same}
 use Rattle.rules.proofs.Kept.{kept-of, Next, kept-next, new-or-before}
 use Rattle.rules.proofs.Circuits.{outs-of-shares}
 use Rattle.rules.proofs.Earlier.{count-made, count-out, outs-made, outs-out}
-use Rattle.rules.proofs.Shares.{made-same}
+use Rattle.rules.proofs.Shares.{made-same, share-one-word, share-two-word}
 use Rattle.rules.proofs.Memories.{shares-one-length, shares-two-length}
 use Rattle.circuit.specs.Noted.{SortsOf}
 use Rattle.circuit.proofs.SortLaws.{sort-of-number}
 use Rattle.evaluate.specs.Held.{Memories, joinedIn, Held}
-
--- Shares are words.
-
--- desk one's share of a value is a word
-pub share-one-word : (s : Sort) (t : ℕ) → t < 2 ^ 32 → shareOne s t < 2 ^ 32
-share-one-word arithmetic t ht = ht
-share-one-word boolean t ht = ht
-share-one-word bit t ht = omega arith
-
--- and so is desk two's
-pub share-two-word : (s : Sort) (v t : ℕ) → v < 2 ^ 32 → t < 2 ^ 32 → shareTwo s v t < 2 ^ 32
-share-two-word arithmetic v t hv ht = omega arith
-share-two-word boolean v t hv ht = xor-lt 32 v t hv ht
-share-two-word bit v t hv ht = xor-lt 32 v (t % 2) hv (omega arith)
 
 -- Words put into a memory and read back.
 

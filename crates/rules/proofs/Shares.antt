@@ -35,6 +35,18 @@ join-shares arithmetic v t word held tape = omega arith
 join-shares boolean v t word held tape = xor-comm t (bitXor v t) ∙ xor-cancel v t
 join-shares bit v t word held tape = xor-comm (t % 2) (bitXor v (t % 2)) ∙ xor-cancel v (t % 2)
 
+-- a share of a word is a word: desk one's,
+pub share-one-word : (m : Sort) (t : ℕ) → t < 4294967296 → shareOne m t < 4294967296
+share-one-word arithmetic t tape = tape
+share-one-word boolean t tape = tape
+share-one-word bit t tape = omega arith
+
+-- and desk two's
+pub share-two-word : (m : Sort) (v t : ℕ) → v < 4294967296 → t < 4294967296 → shareTwo m v t < 4294967296
+share-two-word arithmetic v t word tape = omega arith
+share-two-word boolean v t word tape = xor-lt 32 v t word tape
+share-two-word bit v t word tape = xor-lt 32 v (t % 2) word (omega arith)
+
 -- a word's partner is a word
 partner-lt : (m : Sort) (v v' t : ℕ) → v < 4294967296 → v' < 4294967296 → t < 4294967296 → partnerWord m v v' t < 4294967296
 partner-lt arithmetic v v' t hv hv' ht = omega arith
