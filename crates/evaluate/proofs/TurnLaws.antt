@@ -1,6 +1,7 @@
 -- One gate of a run: its value, its place in the memories, and the memories after it; and the run from the first to the last.
 use Prim.Native.Nat.{ℕ, zero, suc, _+_, _*_, _^_, _≤_, _<_}
-use mathlib.Core.Path.{_≡_, refl, ap, _∙_}
+use mathlib.Core.Path.{_≡_, refl, sym, ap, _∙_}
+use mathlib.Core.Bool.{true, false}
 use mathlib.Core.Option.{none, some}
 use mathlib.Core.List.{List, _∷_}
 use lib.Dec.{T}
@@ -17,12 +18,12 @@ use Rattle.rules.specs.Answers.{outCount, gatesOf, failing21}
 use Rattle.rules.proofs.Kept.{kept-of}
 use Rattle.rules.proofs.Earlier.{gate-kept, gates-step, count-made, outs-out, count-earlier, outs-earlier, sort-earlier, sort-new, wires-below}
 use Rattle.circuit.specs.Sorts.{sortFrom}
-use Rattle.circuit.specs.Gates.{meantGate}
+use Rattle.circuit.specs.Gates.{meantGate, makesWire}
 use Rattle.circuit.specs.Noted.{SortsOf}
 use Rattle.circuit.specs.declared.gates.Gate as code
 use Rattle.circuit.specs.declared.gates.Gate.the-variants.{Both, Mux, Constant, Convert, Input, Out, Nothing}
 use Rattle.circuit.proofs.SortLaws.{sort-of-number}
-use Rattle.circuit.proofs.CheckLaws.{read-as, read-sorted}
+use Rattle.circuit.proofs.CheckLaws.{read-as, read-sorted, makes-some, makes-none}
 use Rattle.evaluate.specs.Held.{Memories, memories, joinedIn, Held, WireIn, WiresIn, Ready, Before, Turned, Done}
 use Rattle.evaluate.proofs.HeldLaws.{held-none, held-wire, held-out, held-value}
 
@@ -86,98 +87,114 @@ wires-in gs one two few long1 long2 = go
     go (Out x) e = read-as (λ g. T (keepsRules gs g) → WireIn one two (x .0)) e (λ ok. wire-in (x .0) (kept-of gs _ ok))
     go Nothing e = λ ok. tt
 
-module _ {circuit tape sorts : List ℕ} {now : Memories} {i w m : ℕ} (before : Before circuit tape sorts now i w m) where
+-- Gate i, the next one, as it was read from its words.
+module _ {circuit tape sorts : List ℕ} {now : Memories} {i w m : ℕ} (before : Before circuit tape sorts now i w m)
+    (gate : code.Gate) (read : meantGate gate ≡ gateAt (words circuit) i) where
   abbrev gs : List Gate
   gs = gatesTo (words circuit) i
 
   abbrev total : ℕ
   total = gateCount (words circuit)
 
-  -- the next gate is one that keeps the rules
-  pub next-gate : (g : Gate) × ((gateAt (words circuit) i ≡ some g) × T (keepsRules gs g))
-  unfolding failing21
-  next-gate = gate-kept (words circuit) total i (before .ready .keeps) (before .within)
+  abbrev all : ℕ
+  all = wires (gatesOf circuit) .count
 
-  -- the wires so far are no more than all
-  wires-fit : wires gs .count ≤ wires (gatesOf circuit) .count
+  -- it is a gate that keeps the rules
+  kept : (g : Gate) × ((gateAt (words circuit) i ≡ some g) × T (keepsRules gs g))
+  unfolding failing21
+  kept = gate-kept (words circuit) total i (before .ready .keeps) (before .within)
+
+  abbrev g : Gate
+  g = kept .0
+
+  abbrev ok : T (keepsRules gs g)
+  ok = kept .1 .1
+
+  is : meantGate gate ≡ some g
+  is = read ∙ kept .1 .0
+
+  step : gatesTo (words circuit) (suc i) ≡ g ∷ gs
+  step = gates-step (words circuit) i (kept .1 .0)
+
+  -- the wires so far are no more than all, so those that it reads have their places
+  wires-fit : wires gs .count ≤ all
   unfolding gatesOf
   wires-fit = count-earlier (words circuit) i total (omega (arith, before .within))
 
-  pub gate-wires-in : (gate : code.Gate) {g : Gate} → meantGate gate ≡ some g → T (keepsRules gs g) → WiresIn (now .one) (now .two) gate
+  pub gate-wires-in : WiresIn (now .one) (now .two) gate
   gate-wires-in =
       wires-in gs (now .one) (now .two) (omega (arith, wires-below (words circuit) i, before .within, before .ready .few))
-      (omega (arith, wires-fit, before .ready .one-long)) (omega (arith, wires-fit, before .ready .two-long))
+      (omega (arith, wires-fit, before .ready .one-long)) (omega (arith, wires-fit, before .ready .two-long)) gate is ok
 
-  module _ {g : Gate} (is' : gateAt (words circuit) i ≡ some g) (ok : T (keepsRules gs g)) where
-    abbrev all : ℕ
-    all = wires (gatesOf circuit) .count
+  -- the sorts of the wires so far are in the array, so its value is joined of the memories
+  sorts-so-far : SortsOf gs sorts
+  unfolding gatesOf failing21
+  sorts-so-far k below =
+      before .ready .sorts-are k (omega (arith, wires-fit))
+      ∙ ap sortNumber (sort-earlier (words circuit) i total (omega (arith, before .within)) (before .ready .keeps) k below)
+
+  module _ (makes-one : makesWire gate ≡ true) where
+    abbrev made : makes g ≡ some (makes-some gate is makes-one .0)
+    made = makes-some gate is makes-one .1
 
     -- a new wire is one more, and no more than all,
-    one-more : {new : ℕ} → makes g ≡ some new → w < all
+    one-more : wires (gatesTo (words circuit) (suc i)) .count ≡ suc w
+    one-more = ap (λ l. wires l .count) step ∙ count-made g gs made ∙ ap suc (sym (before .wires-so-far))
+
+    new-fits : w < all
     unfolding gatesOf
-    one-more made =
-        let more = count-earlier (words circuit) (suc i) total (before .within) in
-        let step = ap (λ l. wires l .count) (gates-step (words circuit) i is') ∙ count-made g gs made in
-        omega (arith, before .wires-so-far)
+    new-fits = omega (arith, one-more, count-earlier (words circuit) (suc i) total (before .within))
 
     -- so it has its places,
-    pub new-wire-in : {new : ℕ} → makes g ≡ some new → WireIn (now .one) (now .two) w × (4 * w + 4 ≤ length tape)
-    new-wire-in made =
-        let more = one-more made in (
-          (
-            omega (arith, before .wires-so-far, wires-below (words circuit) i, before .within, before .ready .few),
-            (omega (arith, before .ready .one-long), omega (arith, before .ready .two-long)),
-          ),
-          omega (arith, before .ready .tape-long),
-        )
+    pub new-wire-in : WireIn (now .one) (now .two) w × (4 * w + 4 ≤ length tape)
+    new-wire-in = (
+      (
+        omega (arith, before .wires-so-far, wires-below (words circuit) i, before .within, before .ready .few),
+        (omega (arith, new-fits, before .ready .one-long), omega (arith, new-fits, before .ready .two-long)),
+      ),
+      omega (arith, new-fits, before .ready .tape-long),
+    )
 
     -- and the array has its sort
-    new-sort : {new : ℕ} → makes g ≡ some new → sortFrom (getD sorts w 0) ≡ sortMade (wires gs .sort) g
+    new-sort : sortFrom (getD sorts w 0) ≡ sortMade (wires gs .sort) g
     unfolding gatesOf failing21
-    new-sort made =
-        let more = one-more made in
-        let here : w < wires (gatesTo (words circuit) (suc i)) .count =
-        omega (arith, before .wires-so-far, ap (λ l. wires l .count) (gates-step (words circuit) i is'), count-made g gs made) in
-        ap sortFrom (before .ready .sorts-are w more
-        ∙ ap sortNumber (sort-earlier (words circuit) (suc i) total (before .within) (before .ready .keeps) w here
-        ∙ ap (λ l. wires l .sort w) (gates-step (words circuit) i is')
+    new-sort =
+        ap sortFrom (before .ready .sorts-are w new-fits
+        ∙ ap sortNumber (sort-earlier (words circuit) (suc i) total (before .within) (before .ready .keeps) w (omega (arith, one-more))
+        ∙ ap (λ l. wires l .sort w) step
         ∙ ap (λ k. wires (g ∷ gs) .sort k) (before .wires-so-far)
         ∙ sort-new g gs ok made))
         ∙ sort-of-number (sortMade (wires gs .sort) g)
 
-    -- an output has its place
-    pub new-output-in : makes g ≡ none → 4 * m + 4 ≤ length (now .outs)
-    unfolding gatesOf
-    new-output-in made =
-        let more = outs-earlier (words circuit) (suc i) total (before .within) in
-        let step = ap outCount (gates-step (words circuit) i is') ∙ outs-out g gs made in
-        omega (arith, before .outs-so-far, before .ready .outs-long)
-
-    -- the sorts of the wires so far are in the array
-    sorts-so-far : SortsOf gs sorts
-    unfolding gatesOf failing21
-    sorts-so-far k below =
-        before .ready .sorts-are k (omega (arith, wires-fit))
-        ∙ ap sortNumber (sort-earlier (words circuit) i total (omega (arith, before .within)) (before .ready .keeps) k below)
-
-    -- memories that hold the gates before it hold it too: after a new wire's shares are put,
-    pub turned-wire : {given : Given} {new : ℕ} → makes g ≡ some new → (v : ℕ) → v < 2 ^ 32 → getD (words tape) w 0 < 2 ^ 32
-        → v ≡ valueOf given (joinedIn sorts (now .one) (now .two)) g
+    -- memories that hold the gates before it hold it too, once its shares are put
+    pub turned-wire : {given : Given} (v : ℕ) → v < 2 ^ 32 → getD (words tape) w 0 < 2 ^ 32
+        → ((h : Gate) → meantGate gate ≡ some h → v ≡ valueOf given (joinedIn sorts (now .one) (now .two)) h)
         → {one two : List ℕ} → one ≡ putAt (now .one) w (shareOne (sortFrom (getD sorts w 0)) (getD (words tape) w 0))
         → two ≡ putAt (now .two) w (shareTwo (sortFrom (getD sorts w 0)) v (getD (words tape) w 0))
         → Turned circuit given (words tape) i now w m (memories one two (now .outs)) (w + 1) m
     unfolding taken
-    turned-wire {given} made v word tape-word is one-is two-is lent held =
-        let room = new-wire-in made in
-        rw (gates-step (words circuit) i is', one-is, two-is, new-sort made)
-        (held-wire g ok made held v word (is ∙ held-value held sorts sorts-so-far g ok) tape-word (room .0 .1 .0) (room .0 .1 .1))
+    turned-wire v word tape-word value one-is two-is lent held =
+        let room = new-wire-in .0 .1 in
+        rw (step, one-is, two-is, new-sort)
+        (held-wire g ok made held v word (value g is ∙ held-value held sorts sorts-so-far g ok) tape-word (room .0) (room .1))
 
-    -- or an output
-    pub turned-output : {given : Given} → makes g ≡ none → (v : ℕ) → v ≡ valueOf given (joinedIn sorts (now .one) (now .two)) g
+  module _ (makes-no : makesWire gate ≡ false) where
+    abbrev no-wire : makes g ≡ none
+    no-wire = makes-none gate is makes-no
+
+    -- an output has its place
+    pub new-output-in : 4 * m + 4 ≤ length (now .outs)
+    unfolding gatesOf
+    new-output-in =
+        let more = outs-earlier (words circuit) (suc i) total (before .within) in
+        let next = ap outCount step ∙ outs-out g gs no-wire in
+        omega (arith, before .outs-so-far, before .ready .outs-long)
+
+    -- memories that hold the gates before it hold it too, once its value is put
+    pub turned-output : {given : Given} (v : ℕ) → ((h : Gate) → meantGate gate ≡ some h → v ≡ valueOf given (joinedIn sorts (now .one) (now .two)) h)
         → {outs : List ℕ} → outs ≡ putAt (now .outs) m v → Turned circuit given (words tape) i now w m (memories (now .one) (now .two) outs) w (m + 1)
-    turned-output made v is outs-are lent held =
-        rw (gates-step (words circuit) i is', outs-are)
-        (held-out g made held v (is ∙ held-value held sorts sorts-so-far g ok) (new-output-in made))
+    turned-output v value outs-are lent held =
+        rw (step, outs-are) (held-out g no-wire held v (value g is ∙ held-value held sorts sorts-so-far g ok) new-output-in)
 
 -- The run: the first i gates are held, and the memories are as long as they were.
 pub record Running (circuit : List ℕ) (given : Given) (tape : List ℕ) (lent now : Memories) (i w m : ℕ) : Type 0 where

@@ -1,4 +1,5 @@
--- `evaluate` meets its contract.
+-- `evaluate` meets its contract: 20 and 21 are answered here, and the rest by `with_gates`.
+use Rattle.rules.specs.Answers.{Lent}
 use mathlib.Core.Path.{refl, sym, _∙_}
 use borrow.Author.Tests.{not-true, not-false}
 use Rattle.rules.proofs.Basics.{of-true}
@@ -8,14 +9,24 @@ use borrow.Author.Needs.{needs}
 use Rattle.evaluate.proofs.evaluate.Statement.{statement}
 use Rattle.evaluate.proofs.evaluate.Tie as tie
 
+-- what is lent to the call
+abbrev lentTo : tie.Start → Lent
+lentTo s =
+    lentWith (s .args .circuit .now) (s .args .inputs1 .now) (s .args .inputs2 .now) (s .args .tape .now)
+    (s .args .shares1 .now) (s .args .shares2 .now) (s .args .outputs .now)
+
 fits-requires : tie.Need-fits-requires
 fits-requires c κs = search needs
 
 returns : tie.Need-returns
-returns c = promise-20 (lentWith (c .before .before .before .before .before .before .before .before .before .args .circuit .now) (c .before .before .before .before .before .before .before .before .before .args .inputs1 .now) (c .before .before .before .before .before .before .before .before .before .args .inputs2 .now) (c .before .before .before .before .before .before .before .before .before .args .tape .now) (c .before .before .before .before .before .before .before .before .before .args .shares1 .now) (c .before .before .before .before .before .before .before .before .before .args .shares2 .now) (c .before .before .before .before .before .before .before .before .before .args .outputs .now)) (sym (c .before .fits2 .ensures) ∙ not-true _ (c .if1 .taken))
+returns c =
+    let start = c .before .before .before .before .before .before .before .before .before in
+    promise-20 (lentTo start) (sym (c .before .fits2 .ensures) ∙ not-true _ (c .if1 .taken))
 
 check-gates-requires : tie.Need-check-gates-requires
-check-gates-requires c κs = ((of-true _ (sym (c .before .before .fits2 .ensures) ∙ not-false _ (c .before .if1 .left))), refl)
+check-gates-requires c κs =
+    let at-fits2 = c .before .before in
+    ((of-true _ (sym (at-fits2 .fits2 .ensures) ∙ not-false _ (c .before .if1 .left))), refl)
 
 enum-known-checked : tie.Need-enum-known-checked
 enum-known-checked c = search needs
@@ -24,10 +35,21 @@ enum-known-checked-2 : tie.Need-enum-known-checked-2
 enum-known-checked-2 c = search needs
 
 with-gates-requires : tie.Need-with-gates-requires
-with-gates-requires c κs = ((of-true _ (sym (c .before .before .before .before .before .before .before .before .before .before .fits2 .ensures) ∙ not-false _ (c .before .before .before .before .before .before .before .before .before .if1 .left))), rw (c .before .before .before .before .before .checked2 .given .1) at (c .before .before .before .before .before .before .before .check-gates .ensures))
+with-gates-requires c κs =
+    let at-checked2 = c .before .before .before .before .before in
+    let at-check-gates = at-checked2 .before .before in
+    let at-if1 = at-check-gates .before .before in
+    let at-fits2 = at-if1 .before in
+    ((of-true _ (sym (at-fits2 .fits2 .ensures) ∙ not-false _ (at-if1 .if1 .left))), rw (at-checked2 .checked2 .given .1) at (at-check-gates .check-gates .ensures))
 
 returns-2 : tie.Need-returns-2
-returns-2 c = promise-21 (lentWith (c .before .before .before .before .before .before .before .before .before .before .before .before .before .before .args .circuit .now) (c .before .before .before .before .before .before .before .before .before .before .before .before .before .before .args .inputs1 .now) (c .before .before .before .before .before .before .before .before .before .before .before .before .before .before .args .inputs2 .now) (c .before .before .before .before .before .before .before .before .before .before .before .before .before .before .args .tape .now) (c .before .before .before .before .before .before .before .before .before .before .before .before .before .before .args .shares1 .now) (c .before .before .before .before .before .before .before .before .before .before .before .before .before .before .args .shares2 .now) (c .before .before .before .before .before .before .before .before .before .before .before .before .before .before .args .outputs .now)) (of-true _ (sym (c .before .before .before .before .before .before .fits2 .ensures) ∙ not-false _ (c .before .before .before .before .before .if1 .left))) (rw (c .before .checked .given .1) at (c .before .before .before .check-gates .ensures))
+returns-2 c =
+    let at-check-gates = c .before .before .before in
+    let at-if1 = at-check-gates .before .before in
+    let at-fits2 = at-if1 .before in
+    let start = at-fits2 .before .before .before .before .before .before .before .before in
+    promise-21 (lentTo start) (of-true _ (sym (at-fits2 .fits2 .ensures) ∙ not-false _ (at-if1 .if1 .left)))
+    (rw (c .before .checked .given .1) at (at-check-gates .check-gates .ensures))
 
 same-length : tie.Need-same-length
 same-length c = search needs

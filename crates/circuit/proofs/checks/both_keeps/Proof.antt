@@ -23,7 +23,13 @@ is-next-requires : tie.Need-is-next-requires
 is-next-requires c κs = search needs
 
 returns : tie.Need-returns
-returns c = λ gs noted. rw (c .before .before .before .is .ensures, c .before .is2 .ensures, c .is-next .ensures, c .before .before .before .before .made .ensures, c .before .before .made2 .ensures, c .before .before .before .before .before .side .ensures) (both-rule noted _ _ _ _)
+returns c =
+    let at-made2 = c .before .before in
+    let at-is = at-made2 .before in
+    let at-made = at-is .before in
+    let at-side = at-made .before in
+    λ gs noted. rw (at-is .is .ensures, c .before .is2 .ensures, c .is-next .ensures, at-made .made .ensures, at-made2 .made2 .ensures, at-side .side .ensures)
+    (both-rule noted _ _ _ _)
 
 pub both-keeps-spec : {M : Type 1} → statement M
 both-keeps-spec =

@@ -25,41 +25,60 @@ gate-at-requires c κs = omega arith
 
 keeps-requires : tie.Need-keeps-requires Inv-loop μ-loop
 keeps-requires c κs =
-    let start = c .before .before .before .before .before .before in
-    omega (arith, passed-wires (c .before .before .before .before .loop .inv), gates-at-most (start .args .circuit .now) (start .pre .0), c .before .before .before .before .loop .inv .within)
+    let at-loop = c .before .before .before .before in
+    let start = at-loop .before .before in
+    omega (arith, passed-wires (at-loop .loop .inv), gates-at-most (start .args .circuit .now) (start .pre .0), at-loop .loop .inv .within)
 
 cast-t13 : tie.Need-cast-t13 Inv-loop μ-loop
-cast-t13 c = let start = c .before .before .before .before .before .before .before .before in omega (arith, gates-at-most (start .args .circuit .now) (start .pre .0), c .before .before .before .before .before .before .loop .inv .within)
+cast-t13 c =
+    let at-loop = c .before .before .before .before .before .before in
+    let start = at-loop .before .before in
+    omega (arith, gates-at-most (start .args .circuit .now) (start .pre .0), at-loop .loop .inv .within)
 
 returns : tie.Need-returns Inv-loop μ-loop
 returns c =
-    let start = c .before .before .before .before .before .before .before .before in
-    let inv = c .before .before .before .before .before .before .loop .inv in
-    passed-breaks inv (meantGate (c .before .before .before .before .gate-at .result)) (c .before .before .before .before .gate-at .ensures) (c .before .before .before .before .before .loop-test .taken)
-    (sym (c .before .keeps .ensures (gatesTo (words (start .args .circuit .now)) (c .before .before .before .before .before .before .loop .i)) (inv .noted)) ∙ not-true _ (c .if1 .taken))
+    let at-gate-at = c .before .before .before .before in
+    let at-loop-test = at-gate-at .before in
+    let at-loop = at-loop-test .before in
+    let start = at-loop .before .before in
+    passed-breaks (at-loop .loop .inv) (meantGate (at-gate-at .gate-at .result)) (at-gate-at .gate-at .ensures) (at-loop-test .loop-test .taken)
+    (sym (c .before .keeps .ensures (gatesTo (words (start .args .circuit .now)) (at-loop .loop .i)) (at-loop .loop .inv .noted))
+    ∙ not-true _ (c .if1 .taken))
 
 note-requires : tie.Need-note-requires Inv-loop μ-loop
 note-requires c κs =
-    let start = c .before .before .before .before .before .before .before .before .before .before in
-    let inv = c .before .before .before .before .before .before .before .before .loop .inv in
-    let gate = c .before .before .before .before .before .before .gate-at .result in
-    let gs = gatesTo (words (start .args .circuit .now)) (c .before .before .before .before .before .before .before .before .loop .i) in
-    let (g, (is, ok)) = kept-is (meantGate gate) gs (sym (c .before .before .before .keeps .ensures gs (inv .noted)) ∙ not-false _ (c .before .before .if1 .left)) in
-    (omega (arith, passed-wires inv, gates-at-most (start .args .circuit .now) (start .pre .0), c .before .before .before .before .before .before .before .loop-test .taken), input-in gate gs is ok)
+    let at-if1 = c .before .before in
+    let at-keeps = at-if1 .before in
+    let at-gate-at = at-keeps .before .before .before in
+    let at-loop-test = at-gate-at .before in
+    let at-loop = at-loop-test .before in
+    let start = at-loop .before .before in
+    let gs = gatesTo (words (start .args .circuit .now)) (at-loop .loop .i) in
+    let (g, (is, ok)) = kept-is (meantGate (at-gate-at .gate-at .result)) gs (sym (at-keeps .keeps .ensures gs (at-loop .loop .inv .noted)) ∙ not-false _ (at-if1 .if1 .left)) in
+    (omega (arith, passed-wires (at-loop .loop .inv), gates-at-most (start .args .circuit .now) (start .pre .0), at-loop-test .loop-test .taken), input-in (at-gate-at .gate-at .result) gs is ok)
 
 add-i : tie.Need-add-i Inv-loop μ-loop
-add-i c = let start = c .before .before .before .before .before .before .before .before .before .before .before in omega (arith, gates-at-most (start .args .circuit .now) (start .pre .0), c .before .before .before .before .before .before .before .before .loop-test .taken)
+add-i c =
+    let at-loop-test = c .before .before .before .before .before .before .before .before in
+    let start = at-loop-test .before .before .before in
+    omega (arith, gates-at-most (start .args .circuit .now) (start .pre .0), at-loop-test .loop-test .taken)
 
 loop-less : tie.Need-loop-less Inv-loop μ-loop
-loop-less c = omega (arith, c .before .before .before .before .before .before .before .before .loop-test .taken)
+loop-less c =
+    let at-loop-test = c .before .before .before .before .before .before .before .before in
+    omega (arith, at-loop-test .loop-test .taken)
 
 loop-again : tie.Need-loop-again Inv-loop μ-loop
 loop-again c =
-    let start = c .before .before .before .before .before .before .before .before .before .before .before in
-    let inv = c .before .before .before .before .before .before .before .before .before .loop .inv in
-    let gs = gatesTo (words (start .args .circuit .now)) (c .before .before .before .before .before .before .before .before .before .loop .i) in
-    let (g, (is, ok)) = kept-is (meantGate (c .before .before .before .before .before .before .before .gate-at .result)) gs (sym (c .before .before .before .before .keeps .ensures gs (inv .noted)) ∙ not-false _ (c .before .before .before .if1 .left)) in
-    passed-next inv g (sym (c .before .before .before .before .before .before .before .gate-at .ensures) ∙ is) ok (c .before .before .before .before .before .before .before .before .loop-test .taken) (c .note .ensures gs g is ok (inv .noted))
+    let at-if1 = c .before .before .before in
+    let at-keeps = at-if1 .before in
+    let at-gate-at = at-keeps .before .before .before in
+    let at-loop-test = at-gate-at .before in
+    let at-loop = at-loop-test .before in
+    let start = at-loop .before .before in
+    let gs = gatesTo (words (start .args .circuit .now)) (at-loop .loop .i) in
+    let (g, (is, ok)) = kept-is (meantGate (at-gate-at .gate-at .result)) gs (sym (at-keeps .keeps .ensures gs (at-loop .loop .inv .noted)) ∙ not-false _ (at-if1 .if1 .left)) in
+    passed-next (at-loop .loop .inv) g (sym (at-gate-at .gate-at .ensures) ∙ is) ok (at-loop-test .loop-test .taken) (c .note .ensures gs g is ok (at-loop .loop .inv .noted))
 
 returns-2 : tie.Need-returns-2 Inv-loop μ-loop
 returns-2 c = passed-all (c .before .loop .inv) (c .loop-test .left)

@@ -23,7 +23,10 @@ is-next-requires : tie.Need-is-next-requires
 is-next-requires c κs = search needs
 
 returns : tie.Need-returns
-returns c = λ gs noted. let start = c .before .before .before .before .before .before in cc (mux-rule noted (start .args .guard .0) (start .args .first .0) (start .args .second .0) (start .args .new .0))
+returns c =
+    let start = c .before .before .before .before .before .before in
+    λ gs noted.
+    cc (mux-rule noted (start .args .guard .0) (start .args .first .0) (start .args .second .0) (start .args .new .0))
 
 pub mux-keeps-spec : {M : Type 1} → statement M
 mux-keeps-spec =

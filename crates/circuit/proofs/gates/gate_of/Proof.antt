@@ -50,7 +50,9 @@ returns-7 c = rw (c .before .match .keys7) (c .out .ensures)
 
 returns-8 : tie.Need-returns-8
 unfolding gateOf
-returns-8 c = rw (no-kind _ (c .match .rest .0 .0 .0 .0 .0 .0 .1) (c .match .rest .0 .0 .0 .0 .0 .1) (c .match .rest .0 .0 .0 .0 .1) (c .match .rest .0 .0 .0 .1) (c .match .rest .0 .0 .1) (c .match .rest .0 .1) (c .match .rest .1))
+returns-8 c =
+    let rest = c .match .rest in
+    rw (no-kind _ (rest .0 .0 .0 .0 .0 .0 .1) (rest .0 .0 .0 .0 .0 .1) (rest .0 .0 .0 .0 .1) (rest .0 .0 .0 .1) (rest .0 .0 .1) (rest .0 .1) (rest .1))
 
 pub gate-of-spec : {M : Type 1} → statement M
 gate-of-spec =

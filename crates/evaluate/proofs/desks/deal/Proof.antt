@@ -32,7 +32,19 @@ same-length-2 : tie.Need-same-length-2
 same-length-2 c = search needs
 
 returns : tie.Need-returns
-returns c = (rw (c .before .before .before .before .before .before .before .before .share-one .ensures, c .before .before .before .before .before .before .before .before .before .before .get .ensures) at (c .before .before .before .before .before .before .before .put .ensures), (rw (c .before .before .before .share-two .ensures, c .before .before .before .before .before .before .before .before .before .before .get .ensures) at (c .before .before .put2 .ensures), (omega (arith, c .before .before .before .before .before .before .before .before .before .before .get .ensures, c .before .before .before .before .before .before .before .before .before .before .get), omega (arith, c .before .before .before .before .before .before .before .before .before .before .before .before .before .before .before .fits))))
+returns c =
+    let at-put2 = c .before .before in
+    let at-share-two = at-put2 .before in
+    let at-put = at-share-two .before .before .before .before in
+    let at-share-one = at-put .before in
+    let at-get = at-share-one .before .before in
+    let start = at-get .before .before .before .before .before in (
+      rw (at-share-one .share-one .ensures, at-get .get .ensures) at (at-put .put .ensures),
+      (
+        rw (at-share-two .share-two .ensures, at-get .get .ensures) at (at-put2 .put2 .ensures),
+        (omega (arith, at-get .get .ensures, at-get .get), omega (arith, start .fits)),
+      ),
+    )
 
 pub deal-spec : {M : Type 1} → statement M
 deal-spec =

@@ -21,16 +21,29 @@ loop-holds : tie.Need-loop-holds Inv-loop μ-loop
 loop-holds c = running-first
 
 turn-requires : tie.Need-turn-requires Inv-loop μ-loop
-turn-requires c κs = running-before (c .before .before .before .before .before .before .before .before .before .before .before .before .pre) (c .before .before .before .before .loop .inv) (omega (arith, c .before .before .before .loop-test .taken, gates-in (c .before .before .before .before .before .before .before .before .before .before .before .before .args .circuit .now)))
+turn-requires c κs =
+    let at-loop-test = c .before .before .before in
+    let at-loop = at-loop-test .before in
+    let start = at-loop .before .before .before .before .before .before .before .before in
+    running-before (start .pre) (at-loop .loop .inv) (omega (arith, at-loop-test .loop-test .taken, gates-in (start .args .circuit .now)))
 
 add-i : tie.Need-add-i Inv-loop μ-loop
-add-i c = omega (arith, c .before .before .before .before .before .before .before .before .before .before .loop-test .taken)
+add-i c =
+    let at-loop-test = c .before .before .before .before .before .before .before .before .before .before in
+    omega (arith, at-loop-test .loop-test .taken)
 
 loop-less : tie.Need-loop-less Inv-loop μ-loop
-loop-less c = omega (arith, c .before .before .before .before .before .before .before .before .before .before .loop-test .taken)
+loop-less c =
+    let at-loop-test = c .before .before .before .before .before .before .before .before .before .before in
+    omega (arith, at-loop-test .loop-test .taken)
 
 loop-again : tie.Need-loop-again Inv-loop μ-loop
-loop-again c = running-next (c .before .before .before .before .before .before .before .before .before .before .before .before .before .before .before .before .before .before .before .pre) (c .before .before .before .before .before .before .before .before .before .before .before .loop .inv) (omega (arith, c .before .before .before .before .before .before .before .before .before .before .loop-test .taken, gates-in (c .before .before .before .before .before .before .before .before .before .before .before .before .before .before .before .before .before .before .before .args .circuit .now))) (c .before .before .before .before .before .before .turn .ensures)
+loop-again c =
+    let at-turn = c .before .before .before .before .before .before in
+    let at-loop-test = at-turn .before .before .before .before in
+    let at-loop = at-loop-test .before in
+    let start = at-loop .before .before .before .before .before .before .before .before in
+    running-next (start .pre) (at-loop .loop .inv) (omega (arith, at-loop-test .loop-test .taken, gates-in (start .args .circuit .now))) (at-turn .turn .ensures)
 
 same-length : tie.Need-same-length Inv-loop μ-loop
 same-length c = c .before .loop .inv .held .one-long
@@ -42,7 +55,9 @@ same-length-3 : tie.Need-same-length-3 Inv-loop μ-loop
 same-length-3 c = c .before .loop .inv .held .outs-long
 
 returns : tie.Need-returns Inv-loop μ-loop
-returns c = running-last (c .before .before .before .before .before .before .before .before .before .pre) (c .before .loop .inv) (omega (arith, c .loop-test .left, gates-in (c .before .before .before .before .before .before .before .before .before .args .circuit .now)))
+returns c =
+    let start = c .before .before .before .before .before .before .before .before .before in
+    running-last (start .pre) (c .before .loop .inv) (omega (arith, c .loop-test .left, gates-in (start .args .circuit .now)))
 
 pub run-spec : {M : Type 1} → statement M
 run-spec =

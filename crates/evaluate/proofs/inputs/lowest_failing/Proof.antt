@@ -24,7 +24,15 @@ passes-requires : tie.Need-passes-requires Inv-loop μ-loop
 passes-requires c κs = tt
 
 returns : tie.Need-returns Inv-loop μ-loop
-returns c = found-here (c .before .before .before .before .before .before .before .before .args .check) (c .before .before .before .before .before .before .before .before .args .circuit .now) (words (c .before .before .before .before .before .before .before .before .args .inputs1 .now)) (words (c .before .before .before .before .before .before .before .before .args .inputs2 .now)) (c .before .before .before .before .loop .inv) (c .before .before .before .loop-test .taken) (sym (passes-is (c .before .before .before .before .before .before .before .before .args .check) (c .before .before .before .before .before .before .before .before .args .circuit .now) (words (c .before .before .before .before .before .before .before .before .args .inputs1 .now)) (words (c .before .before .before .before .before .before .before .before .args .inputs2 .now)) (c .before .before .before .before .loop .i) (c .before .before .before .before .before .before .before .before .pre) (c .before .before .before .loop-test .taken) (c .before .before .gate-at .result) (c .before .before .gate-at .ensures) (c .before .passes .result) (c .before .passes .ensures)) ∙ not-true _ (c .if1 .taken))
+returns c =
+    let at-gate-at = c .before .before in
+    let at-loop-test = at-gate-at .before in
+    let at-loop = at-loop-test .before in
+    let start = at-loop .before .before .before .before in
+    let told = passes-is (start .args .check) (start .args .circuit .now) (words (start .args .inputs1 .now)) (words (start .args .inputs2 .now)) (at-loop .loop .i) (start .pre)
+    (at-loop-test .loop-test .taken) (at-gate-at .gate-at .result) (at-gate-at .gate-at .ensures) (c .before .passes .result) (c .before .passes .ensures) in
+    found-here (start .args .check) (start .args .circuit .now) (words (start .args .inputs1 .now)) (words (start .args .inputs2 .now)) (at-loop .loop .inv)
+    (at-loop-test .loop-test .taken) (sym told ∙ not-true _ (c .if1 .taken))
 
 add-i : tie.Need-add-i Inv-loop μ-loop
 add-i c = omega (arith, c .before .before .before .loop-test .taken)
@@ -33,10 +41,21 @@ loop-less : tie.Need-loop-less Inv-loop μ-loop
 loop-less c = omega (arith, c .before .before .before .loop-test .taken)
 
 loop-again : tie.Need-loop-again Inv-loop μ-loop
-loop-again c = none-next (c .before .before .before .before .before .before .before .before .args .check) (c .before .before .before .before .before .before .before .before .args .circuit .now) (words (c .before .before .before .before .before .before .before .before .args .inputs1 .now)) (words (c .before .before .before .before .before .before .before .before .args .inputs2 .now)) (c .before .before .before .before .loop .inv) (c .before .before .before .loop-test .taken) (sym (passes-is (c .before .before .before .before .before .before .before .before .args .check) (c .before .before .before .before .before .before .before .before .args .circuit .now) (words (c .before .before .before .before .before .before .before .before .args .inputs1 .now)) (words (c .before .before .before .before .before .before .before .before .args .inputs2 .now)) (c .before .before .before .before .loop .i) (c .before .before .before .before .before .before .before .before .pre) (c .before .before .before .loop-test .taken) (c .before .before .gate-at .result) (c .before .before .gate-at .ensures) (c .before .passes .result) (c .before .passes .ensures)) ∙ not-false _ (c .if1 .left))
+loop-again c =
+    let at-gate-at = c .before .before in
+    let at-loop-test = at-gate-at .before in
+    let at-loop = at-loop-test .before in
+    let start = at-loop .before .before .before .before in
+    let told = passes-is (start .args .check) (start .args .circuit .now) (words (start .args .inputs1 .now)) (words (start .args .inputs2 .now)) (at-loop .loop .i) (start .pre)
+    (at-loop-test .loop-test .taken) (at-gate-at .gate-at .result) (at-gate-at .gate-at .ensures) (c .before .passes .result) (c .before .passes .ensures) in
+    none-next (start .args .check) (start .args .circuit .now) (words (start .args .inputs1 .now)) (words (start .args .inputs2 .now)) (at-loop .loop .inv)
+    (at-loop-test .loop-test .taken) (sym told ∙ not-false _ (c .if1 .left))
 
 returns-2 : tie.Need-returns-2 Inv-loop μ-loop
-returns-2 c = found-nowhere (c .before .before .before .before .before .args .check) (c .before .before .before .before .before .args .circuit .now) (words (c .before .before .before .before .before .args .inputs1 .now)) (words (c .before .before .before .before .before .args .inputs2 .now)) (c .before .loop .inv) (c .loop-test .left)
+returns-2 c =
+    let start = c .before .before .before .before .before in
+    found-nowhere (start .args .check) (start .args .circuit .now) (words (start .args .inputs1 .now)) (words (start .args .inputs2 .now)) (c .before .loop .inv)
+    (c .loop-test .left)
 
 pub lowest-failing-spec : {M : Type 1} → statement M
 lowest-failing-spec =

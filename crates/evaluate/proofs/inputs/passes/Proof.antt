@@ -18,10 +18,19 @@ enum-told : tie.Need-enum-told
 enum-told c = search needs
 
 returns : tie.Need-returns
-returns c = λ g e. c .input-passes .ensures ∙ ap (tested _) (sym (c .before .before .read .given .1) ∙ c .before .before .before .before .reads .ensures) ∙ read-tested _ (c .before .before .before .before .before .before .before .args .gate) e
+returns c =
+    let at-read = c .before .before in
+    let at-reads = at-read .before .before in
+    let start = at-reads .before .before .before in
+    λ g e. c .input-passes .ensures ∙ ap (tested _) (sym (at-read .read .given .1) ∙ at-reads .reads .ensures)
+    ∙ read-tested _ (start .args .gate) e
 
 returns-2 : tie.Need-returns-2
-returns-2 c = λ g e. ap (tested _) (sym (c .enum-told .given .1) ∙ c .before .before .reads .ensures) ∙ read-tested _ (c .before .before .before .before .before .args .gate) e
+returns-2 c =
+    let at-reads = c .before .before in
+    let start = at-reads .before .before .before in
+    λ g e. ap (tested _) (sym (c .enum-told .given .1) ∙ at-reads .reads .ensures)
+    ∙ read-tested _ (start .args .gate) e
 
 pub passes-spec : {M : Type 1} → statement M
 passes-spec =
