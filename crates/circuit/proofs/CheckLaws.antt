@@ -22,22 +22,10 @@ use Rattle.circuit.specs.declared.gates.Gate.the-variants.{Both, Mux, Co
 use Rattle.circuit.specs.Gates.{meantGate, makesWire}
 use Rattle.circuit.specs.Sorts.{isSort, sortFrom, converts}
 use Rattle.circuit.specs.Noted.{WiresNoted, madeAt, armsAlike, slotOf, otherThan, InputsNoted, InputIn}
-use Rattle.circuit.proofs.SortLaws.{sort-of-number, number-is, number-of-sort}
+use Rattle.circuit.proofs.SortLaws.{sort-of-number, number-same, number-is, number-of-sort}
 use Rattle.circuit.proofs.GateLaws.{with-sort, without-sort}
 
 -- Sorts by number.
-
--- two sorts are one where their numbers are
-number-same : (k m : Sort) → eqb (sortNumber k) (sortNumber m) ≡ same k m
-number-same arithmetic arithmetic = refl
-number-same arithmetic boolean = refl
-number-same arithmetic bit = refl
-number-same boolean arithmetic = refl
-number-same boolean boolean = refl
-number-same boolean bit = refl
-number-same bit arithmetic = refl
-number-same bit boolean = refl
-number-same bit bit = refl
 
 -- no sort has the number 0
 zero-no-sort : (m : Sort) → eqb 0 (sortNumber m) ≡ false
@@ -165,10 +153,6 @@ module _ {gs : List Gate} {sorts : List ℕ} {w : ℕ} (noted : WiresNoted gs so
   -- the new wire of a mux has the sort of its first arm, which the array says,
   pub mux-sort : (g a b new : ℕ) → T (keepsRules gs (mux g a b new)) → madeAt sorts w a ≡ sortNumber (wires gs .sort a)
   mux-sort g a b new t = made-sort a (omega (arith, kept-of gs (mux g a b new) t .1 .0))
-
-  -- and so it does of the wire of an out
-  pub output-sort : (x : ℕ) → T (keepsRules gs (output x)) → madeAt sorts w x ≡ sortNumber (wires gs .sort x)
-  output-sort x t = made-sort x (omega (arith, kept-of gs (output x) t))
 
   -- a wire that is made is noted with its sort,
   pub noted-made : (g : Gate) {new : ℕ} → T (keepsRules gs g) → makes g ≡ some new → w < length sorts

@@ -3,9 +3,9 @@ use Prim.Native.Nat.{ℕ, zero, suc}
 use mathlib.Core.Path.{_≡_, refl}
 use mathlib.Core.Bool.{true, false}
 use mathlib.Core.Option.{none, some}
-use lib.Dec.{ltb, leb, ltb→lt}
+use lib.Dec.{eqb, ltb, leb, ltb→lt}
 use native.Mathlib.Omega.{arith}
-use Rattle.rules.specs.Sorts.{Sort, arithmetic, boolean, bit, sortNumber, sortNumbered, fitsSort}
+use Rattle.rules.specs.Sorts.{Sort, arithmetic, boolean, bit, sortNumber, sortNumbered, same, fitsSort}
 use Rattle.rules.proofs.Basics.{of-true, and-right, none≢some}
 use Rattle.circuit.specs.Sorts.{isSort, sortFrom}
 
@@ -55,3 +55,15 @@ number-of-sort (suc zero) e = cc
 number-of-sort (suc (suc zero)) e = cc
 number-of-sort (suc (suc (suc zero))) e = cc
 number-of-sort (suc (suc (suc (suc n)))) {m} e = absurd (none≢some m e)
+
+-- two sorts are one where their numbers are
+pub number-same : (k m : Sort) → eqb (sortNumber k) (sortNumber m) ≡ same k m
+number-same arithmetic arithmetic = refl
+number-same arithmetic boolean = refl
+number-same arithmetic bit = refl
+number-same boolean arithmetic = refl
+number-same boolean boolean = refl
+number-same boolean bit = refl
+number-same bit arithmetic = refl
+number-same bit boolean = refl
+number-same bit bit = refl

@@ -2,8 +2,9 @@
 ghost use mathlib.Core.Path.{_≡_};
 ghost use mathlib.Core.Bool.{not};
 ghost use lib.Dec.{eqb};
-ghost use Rattle.rules.specs.Sorts.{fitsSort};
-ghost use Rattle.circuit.specs.Sorts.{meantSort, isSort, converts};
+ghost use Rattle.rules.specs.Sorts as rules;
+ghost use Rattle.rules.specs.Sorts.{same, fitsSort};
+ghost use Rattle.circuit.specs.Sorts.{asSort, meantSort, isSort, converts};
 
 pub struct Sort(pub u32);
 
@@ -32,7 +33,7 @@ impl Sort {
 
     // Bringing a wire of this sort to another sort takes a convert gate; to its own, nothing.
     pub fn needs_convert(self, to: Sort) -> bool
-        ensures { λ r. ⌜ r ≡ not (eqb (self .0) (to .0)) ⌝ }
+        ensures { λ r. ⌜ ((k m : rules.Sort) → self ≡ asSort k → to ≡ asSort m → r ≡ not (same k m)) ⌝ }
     {
         !(self.0 == to.0)
     }
