@@ -1,12 +1,16 @@
 /* The desk's operations, for C on x86-64. Link with libdesk.a.
  *
- * Words. Every memory holds words of four bytes, the lowest first; word i lies at bytes 4i to 4i + 3. No alignment is needed.
- * A uint32_t array is such a memory on x86-64. Lengths are in bytes. One to three odd last bytes are not read and not
- * written (only a circuit is refused for them, with 20).
+ * Words. Every memory holds words of four bytes, the lowest first; word i lies at bytes 4i to 4i + 3. No alignment is
+ * needed. A uint32_t array is such a memory on x86-64. Lengths are in bytes. One to three odd last bytes are not read and
+ * not written (only a circuit is refused for them, with 20).
  *
  * Nothing has to be checked before a call: every length and every content gets an answer. What the caller owes is C's own:
  * each pointer is valid for its length, and a memory that is lent to be written overlaps no other memory of the call. With
- * length 0 a pointer is not followed. */
+ * length 0 a pointer is not followed.
+ *
+ * A call keeps no state and uses no heap. It needs less than 16 KiB of stack and, of C's library, memset. The library has no
+ * static data that is written, so several threads may call at once, each with lent memories of its own; what is only read
+ * they may share. */
 #ifndef DESK_H
 #define DESK_H
 
@@ -17,8 +21,8 @@
 extern "C" {
 #endif
 
-/* The answer of an evaluation. Accepted: number 0, place 0 and the counts. Refused: a number from 20 on, its place, and
- * zero counts. */
+/* The answer of an evaluation. Accepted: number 0, place 0 and the counts. Refused: a number from 20 to 25, its place,
+ * and zero counts. */
 typedef struct desk_evaluated {
     uint32_t number;
     uint32_t place;   /* the lowest gate at fault, from 0; or 0 */
@@ -30,22 +34,23 @@ typedef struct desk_evaluated {
  *
  * Read:
  *   circuit    five words to a gate, gates and wires counted from 0:
- *                1  wire, wire, new wire, 0       add; both wires sort 1, the new one 1
+ *                1  wire, wire, new wire, 0       add: the sum, which wraps at 2^32; both wires sort 1, the new one 1
  *                2  guard, wire, wire, new wire   mux: the first wire where the guard is 1, else the second; guard sort 3,
  *                                                 the others both sort 2 or both 3, the new one as they are
- *                3  wire, wire, new wire, 0       greater; both wires sort 2, the new one 3
- *                4  value, sort, new wire, 0      constant; sort 1 to 3, of sort 3 the value is 0 or 1
- *                5  wire, sort, new wire, 0       convert; from sort 1 to 2 or from 2 to 1
- *                6  desk, number, sort, new wire  input; desk 1 or 2, number 0 to 63, sort 1 or 3, and one sort for
- *                                                 one desk and number
- *                7  wire, 0, 0, 0                 out
- *              A wire that is read was made by an earlier gate; a new wire has the next number. Sort 1 is an arithmetic
- *              uint, sort 2 a boolean one, sort 3 a bool.
+ *                3  wire, wire, new wire, 0       greater: 1 where the first is above the second, as unsigned numbers,
+ *                                                 else 0; both wires sort 2, the new one 3
+ *                4  value, sort, new wire, 0      constant: the value; sort 1 to 3, of sort 3 the value is 0 or 1
+ *                5  wire, sort, new wire, 0       convert: keeps the value; from sort 1 to 2 or from 2 to 1
+ *                6  desk, number, sort, new wire  input: that desk's input; desk 1 or 2, number 0 to 63, sort 1 or 3
+ *                7  wire, 0, 0, 0                 out: puts the wire's value to the outputs; the wire of any sort
+ *              A wire that is read was made by an earlier gate; a new wire has the next number. One desk and number has one
+ *              sort: where two input gates differ, the later one is at fault (21). Sort 1 is an arithmetic uint, sort 2 a
+ *              boolean one, sort 3 a bool.
  *   inputs1    desk one's inputs: word n is input number n
  *   inputs2    desk two's inputs
  *   tape       a word for each wire; more are not read
  *
- * Written where the circuit is accepted, from the start of each memory and only these words; all other bytes stay:
+ * Written where the call is accepted (number 0), from the start of each memory and only these words; all other bytes stay:
  *   shares1    word k is desk one's share of wire k: tape word k; for sort 3 its lowest bit
  *   shares2    word k is desk two's share of wire k: the wire's value minus tape word k, wrapped (sort 1); the value xor
  *              tape word k (sort 2); the value xor that word's lowest bit (sort 3)

@@ -1,9 +1,11 @@
 /* The cases of document 01 that are evaluations, and what each gate computes. */
 #include "harness.h"
 
+#include <stdio.h>
 #include <string.h>
 
-/* Case sum: "inputs 7 and 5, tape 10, 20, 30: desk one 10, 20, 30; desk two 4294967293, 4294967281, 4294967278; output 12" */
+/* Case sum: "inputs 7 and 5, tape 10, 20, 30: desk one 10, 20, 30; desk two 4294967293, 4294967281, 4294967278; output
+ * 12" */
 static void sum(void)
 {
     call_sum();
@@ -13,18 +15,15 @@ static void sum(void)
     EXPECT_WORDS(OUTPUTS, 12);
 }
 
-/* The call that desk.h gives as its example. */
+/* The call that desk.h gives as its example, taken from there, and what its last line says of it. */
 static void example_of_the_header(void)
 {
-    const uint32_t circuit[] = {6,1,0,1,0, 6,2,0,1,1, 1,0,1,2,0, 7,2,0,0,0}, one = 7, two = 5, tape[] = {10, 20, 30};
-    uint32_t shares1[3], shares2[3], output;
-    desk_evaluated r = desk_evaluate((const uint8_t *)circuit, sizeof circuit,
-        (const uint8_t *)&one, 4, (const uint8_t *)&two, 4, (const uint8_t *)tape, sizeof tape,
-        (uint8_t *)shares1, sizeof shares1, (uint8_t *)shares2, sizeof shares2, (uint8_t *)&output, 4);
-    EXPECT(r.number == 0 && r.place == 0 && r.wires == 3 && r.outputs == 1);
-    EXPECT(shares1[0] == 10 && shares1[1] == 20 && shares1[2] == 30);
-    EXPECT(shares2[0] == 4294967293 && shares2[1] == 4294967281 && shares2[2] == 4294967278);
-    EXPECT(output == 12);
+    char found[200];
+#include "example.inc"
+    snprintf(found, sizeof found, "r is {%u, %u, %u, %u}, shares1 %u, %u, %u, shares2 %u, %u, %u, output %u",
+        r.number, r.place, r.wires, r.outputs, shares1[0], shares1[1], shares1[2], shares2[0], shares2[1], shares2[2],
+        output);
+    EXPECT(strcmp(found, said) == 0);
 }
 
 /* "out of (desk one's input > desk two's): 6 gates, 5 wires" */
@@ -40,9 +39,7 @@ static void call_greater(uint32_t one, uint32_t two, const uint32_t *tape)
     add_word(INPUTS1, one);
     add_word(INPUTS2, two);
     add_words(TAPE, 5, tape);
-    lend(SHARES1, 20);
-    lend(SHARES2, 20);
-    lend(OUTPUTS, 4);
+    lend_words(5, 1);
 }
 
 static void greater(void)
@@ -62,7 +59,7 @@ static void greater_is_strict_and_unsigned(void)
         {5, 5, 0}, {4, 5, 0}, {6, 5, 1}, {0, 0, 0}, {4294967295, 0, 1}, {0, 4294967295, 0}, {2147483648, 2147483647, 1},
         {2147483647, 2147483648, 0}, {4294967295, 4294967294, 1}, {4294967295, 4294967295, 0},
     };
-    for (size_t i = 0; i < sizeof pairs / sizeof pairs[0]; i++) {
+    for (size_t i = 0; i < COUNT(pairs); i++) {
         call_greater(pairs[i][0], pairs[i][1], tape);
         EXPECT_ACCEPTED(5, 1);
         EXPECT_WORDS(OUTPUTS, pairs[i][2]);
@@ -76,7 +73,7 @@ static void greater_partners_look_the_same_to_desk_two(void)
         {10, 4294967295, 30, 40, 51}, {0, 0, 0, 0, 0}, {4294967295, 4294967294, 4294967293, 4294967292, 4294967291},
         {0x12345678, 0x9abcdef0, 0x0fedcba9, 0x87654321, 0xdeadbeef},
     };
-    for (size_t i = 0; i < sizeof tapes / sizeof tapes[0]; i++) {
+    for (size_t i = 0; i < COUNT(tapes); i++) {
         const uint32_t *t = tapes[i];
         uint8_t two[20];
         call_greater(7, 5, t);
@@ -92,11 +89,11 @@ static void greater_partners_look_the_same_to_desk_two(void)
     }
 }
 
-/* "Desk one's shares are the same in any two runs with one tape." */
+/* Demand 3, of desk one: its shares are those of the tape, whatever the inputs are. */
 static void greater_looks_the_same_to_desk_one(void)
 {
     const uint32_t tape[] = {10, 4294967295, 30, 40, 51}, inputs[][2] = {{7, 5}, {9, 5}, {0, 4294967295}, {5, 5}};
-    for (size_t i = 0; i < sizeof inputs / sizeof inputs[0]; i++) {
+    for (size_t i = 0; i < COUNT(inputs); i++) {
         call_greater(inputs[i][0], inputs[i][1], tape);
         EXPECT_ACCEPTED(5, 1);
         EXPECT_WORDS(SHARES1, 10, 4294967295, 30, 40, 1);
@@ -125,8 +122,7 @@ static void shares_of_each_sort(void)
     add_gate(4, 1, 3, 3, 0);
     add_gate(4, 0, 3, 4, 0);
     ADD_WORDS(TAPE, 9, 9, 9, 8, 9);
-    lend(SHARES1, 20);
-    lend(SHARES2, 20);
+    lend_words(5, 0);
     EXPECT_ACCEPTED(5, 0);
     EXPECT_WORDS(SHARES1, 9, 9, 1, 0, 1);
     EXPECT_WORDS(SHARES2, 4294967293, 15, 0, 1, 1);
@@ -136,8 +132,7 @@ static void shares_of_each_sort(void)
 static void mux_picks(void)
 {
     for (uint32_t guard = 0; guard < 2; guard++) {
-        no_call();
-        lend_enough();
+        no_gates();
         add_gate(4, guard, 3, 0, 0);
         add_gate(4, 11, 2, 1, 0);
         add_gate(4, 22, 2, 2, 0);
@@ -160,12 +155,9 @@ static void converts_keep_the_value(void)
     add_gate(4, 3000000000, 1, 0, 0);
     add_gate(5, 0, 2, 1, 0);
     add_gate(5, 1, 1, 2, 0);
-    for (uint32_t k = 0; k < 3; k++)
-        add_gate(7, k, 0, 0, 0);
+    add_outs(3);
     ADD_WORDS(TAPE, 4000000000, 1, 3000000001);
-    lend(SHARES1, 12);
-    lend(SHARES2, 12);
-    lend(OUTPUTS, 12);
+    lend_words(3, 3);
     EXPECT_ACCEPTED(3, 3);
     EXPECT_WORDS(SHARES1, 4000000000, 1, 3000000001);
     EXPECT_WORDS(SHARES2, 3294967296, 3000000001, 4294967295);
@@ -175,8 +167,7 @@ static void converts_keep_the_value(void)
 /* "Outputs are in order", a wire as often as it is put out, and each as soon as its wire is made. */
 static void outputs_in_order(void)
 {
-    no_call();
-    lend_enough();
+    no_gates();
     add_gate(4, 100, 1, 0, 0);
     add_gate(7, 0, 0, 0, 0);
     add_gate(4, 200, 2, 1, 0);
@@ -191,13 +182,11 @@ static void outputs_in_order(void)
 /* Desk one's input 63 and desk two's, the last that there are. */
 static void inputs_of_both_desks(void)
 {
-    no_call();
-    lend_enough();
+    no_gates();
     add_gate(6, 1, 63, 1, 0);
     add_gate(6, 2, 63, 1, 1);
     add_gate(6, 2, 0, 3, 2);
-    for (uint32_t k = 0; k < 3; k++)
-        add_gate(7, k, 0, 0, 0);
+    add_outs(3);
     for (uint32_t n = 0; n < 64; n++) {
         add_word(INPUTS1, 1000 + n);
         add_word(INPUTS2, n == 0 ? 1 : 2000 + n);

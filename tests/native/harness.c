@@ -73,8 +73,16 @@ void lend(enum memory m, size_t bytes)
     call.length[m] = bytes;
 }
 
-void lend_enough(void)
+void lend_words(size_t wires, size_t outputs)
 {
+    lend(SHARES1, 4 * wires);
+    lend(SHARES2, 4 * wires);
+    lend(OUTPUTS, 4 * outputs);
+}
+
+void no_gates(void)
+{
+    no_call();
     for (enum memory m = TAPE; m < MEMORIES; m++)
         lend(m, ENOUGH);
 }
@@ -94,6 +102,12 @@ void add_words(enum memory m, size_t count, const uint32_t *words)
 void add_gate(uint32_t kind, uint32_t a, uint32_t b, uint32_t c, uint32_t d)
 {
     ADD_WORDS(CIRCUIT, kind, a, b, c, d);
+}
+
+void add_outs(uint32_t wires)
+{
+    for (uint32_t k = 0; k < wires; k++)
+        add_gate(7, k, 0, 0, 0);
 }
 
 /* The memories as the call has them: each in a place of its own, with guard bytes before and after. */
@@ -203,7 +217,5 @@ void call_sum(void)
     add_word(INPUTS1, 7);
     add_word(INPUTS2, 5);
     ADD_WORDS(TAPE, 10, 20, 30);
-    lend(SHARES1, 12);
-    lend(SHARES2, 12);
-    lend(OUTPUTS, 4);
+    lend_words(3, 1);
 }

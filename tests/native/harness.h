@@ -29,6 +29,8 @@ extern struct call call;
 /* What each memory holds after the call was made. */
 extern uint8_t after[MEMORIES][ROOM];
 
+#define COUNT(array) (sizeof(array) / sizeof(array)[0])
+
 /* A test is a named function, and a group is a list of them. */
 struct test {
     const char *name;
@@ -37,7 +39,7 @@ struct test {
 #define TEST(function) {#function, function}
 
 void run_group(const char *name, const struct test *tests, size_t count);
-#define RUN_GROUP(name, tests) run_group(name, tests, sizeof tests / sizeof tests[0])
+#define RUN_GROUP(name, tests) run_group(name, tests, COUNT(tests))
 
 /* Says how many passed and failed; the exit status of the program. */
 int report(void);
@@ -48,15 +50,16 @@ void expect(bool holds, const char *what, const char *file, int line);
 bool fails(void); /* it has failed */
 
 /* Building the call. None: every memory empty, all at even addresses. Lent: a memory filled with a pattern to be
- * overwritten. */
+ * overwritten. No gates: none yet, and no inputs; the tape and the lent memories are always enough. */
 void no_call(void);
 void lend(enum memory m, size_t bytes);
-void lend_enough(void);
+void lend_words(size_t wires, size_t outputs); /* the shares and the outputs: just long enough for these counts */
+void no_gates(void);
 void add_word(enum memory m, uint32_t word);
 void add_words(enum memory m, size_t count, const uint32_t *words);
 void add_gate(uint32_t kind, uint32_t a, uint32_t b, uint32_t c, uint32_t d);
-#define ADD_WORDS(m, ...) \
-    add_words(m, sizeof((uint32_t[]){__VA_ARGS__}) / sizeof(uint32_t), (const uint32_t[]){__VA_ARGS__})
+void add_outs(uint32_t wires); /* of each of the wires below this one */
+#define ADD_WORDS(m, ...) add_words(m, COUNT(((uint32_t[]){__VA_ARGS__})), (const uint32_t[]){__VA_ARGS__})
 
 /* Makes the call. Expects, of every call: no byte outside the memories is written, what is only read stays as it is, a
  * refusal has zero counts and leaves every lent byte, acceptance leaves the bytes after the words that it counts, and the
@@ -70,7 +73,7 @@ void expect_answer(uint32_t number, uint32_t place, uint32_t wires, uint32_t out
 
 /* Expects these words from the start of a memory, after the call. */
 #define EXPECT_WORDS(m, ...) \
-    expect_words(m, sizeof((uint32_t[]){__VA_ARGS__}) / sizeof(uint32_t), (const uint32_t[]){__VA_ARGS__}, __FILE__, __LINE__)
+    expect_words(m, COUNT(((uint32_t[]){__VA_ARGS__})), (const uint32_t[]){__VA_ARGS__}, __FILE__, __LINE__)
 void expect_words(enum memory m, size_t count, const uint32_t *words, const char *file, int line);
 uint32_t word_after(enum memory m, size_t i);
 

@@ -102,8 +102,7 @@ static void empty_memories_at_null(void)
     no_call(); /* a circuit that reads no input and puts nothing out */
     add_gate(4, 5, 1, 0, 0);
     add_word(TAPE, 2);
-    lend(SHARES1, 4);
-    lend(SHARES2, 4);
+    lend_words(1, 0);
     call.nulls = true;
     EXPECT_ACCEPTED(1, 0);
     EXPECT_WORDS(SHARES2, 3);

@@ -20,6 +20,14 @@ struct wires {
     uint32_t value[MOST_GATES];
 };
 
+/* A circuit: its gates, the wires that they make, and how many outs there are. */
+struct circuit {
+    size_t count;
+    struct gate gates[MOST_GATES];
+    struct wires wires;
+    uint32_t outs;
+};
+
 /* The inputs of both desks. */
 struct inputs {
     const uint8_t *one, *two;
@@ -45,17 +53,23 @@ static size_t whole_words(size_t bytes)
     return bytes / 4;
 }
 
-static size_t read_gates(const uint8_t *circuit, size_t length, struct gate *gates)
+/* "Bytes that aren't whole words are .. 20 for a circuit"; "circuit words not a multiple of 5, or over 15,000" */
+static bool fits(size_t bytes)
 {
-    size_t count = length / 20;
-    for (size_t i = 0; i < count; i++) {
-        gates[i].kind = read_word(circuit, 5 * i);
-        gates[i].a = read_word(circuit, 5 * i + 1);
-        gates[i].b = read_word(circuit, 5 * i + 2);
-        gates[i].c = read_word(circuit, 5 * i + 3);
-        gates[i].d = read_word(circuit, 5 * i + 4);
+    return bytes % 4 == 0 && whole_words(bytes) % 5 == 0 && whole_words(bytes) <= MOST_WORDS;
+}
+
+static void read_gates(const uint8_t *bytes, size_t length, struct circuit *circuit)
+{
+    circuit->count = length / 20;
+    for (size_t i = 0; i < circuit->count; i++) {
+        struct gate *g = &circuit->gates[i];
+        g->kind = read_word(bytes, 5 * i);
+        g->a = read_word(bytes, 5 * i + 1);
+        g->b = read_word(bytes, 5 * i + 2);
+        g->c = read_word(bytes, 5 * i + 3);
+        g->d = read_word(bytes, 5 * i + 4);
     }
-    return count;
 }
 
 /* "A wire read was made earlier", and it has this sort. */
@@ -96,7 +110,8 @@ static bool keeps_rules(const struct gate *gates, size_t i, const struct wires *
     case CONSTANT: /* "value, sort 1 to 3, new (sort 3: value 0 or 1)" */
         return g->b >= 1 && g->b <= 3 && (g->b != BIT || g->a <= 1) && is_new(wires, g->c) && g->d == 0;
     case CONVERT: /* "wire, sort, new (1 to 2 or 2 to 1)" */
-        return ((is_wire(wires, g->a, ARITHMETIC) && g->b == BOOLEAN) || (is_wire(wires, g->a, BOOLEAN) && g->b == ARITHMETIC))
+        return ((is_wire(wires, g->a, ARITHMETIC) && g->b == BOOLEAN)
+                || (is_wire(wires, g->a, BOOLEAN) && g->b == ARITHMETIC))
             && is_new(wires, g->c) && g->d == 0;
     case INPUT: /* "desk 1 or 2, number 0..63, sort 1 or 3, new" */
         return (g->a == 1 || g->a == 2) && g->b <= 63 && (g->c == ARITHMETIC || g->c == BIT) && !clashes(gates, i)
@@ -125,6 +140,26 @@ static uint32_t sort_made(const struct gate *g, const struct wires *wires)
     }
 }
 
+/* "a gate breaks the rules below": the lowest one that does, or the number of gates. Notes the sorts of the wires and
+ * counts the outs. */
+static size_t breaks_rules(struct circuit *circuit)
+{
+    struct wires *wires = &circuit->wires;
+    wires->count = circuit->outs = 0;
+    for (size_t i = 0; i < circuit->count; i++) {
+        const struct gate *g = &circuit->gates[i];
+        if (!keeps_rules(circuit->gates, i, wires))
+            return i;
+        if (g->kind == OUT) {
+            circuit->outs++;
+        } else {
+            wires->sort[wires->count] = sort_made(g, wires);
+            wires->count++;
+        }
+    }
+    return circuit->count;
+}
+
 static size_t input_words(const struct inputs *inputs, uint32_t desk)
 {
     return whole_words(desk == 1 ? inputs->one_length : inputs->two_length);
@@ -133,6 +168,28 @@ static size_t input_words(const struct inputs *inputs, uint32_t desk)
 static uint32_t input(const struct inputs *inputs, uint32_t desk, uint32_t number)
 {
     return read_word(desk == 1 ? inputs->one : inputs->two, number);
+}
+
+/* "an input read lies past the end of that desk's inputs": the lowest such gate, or the number of gates */
+static size_t reads_past_the_end(const struct circuit *circuit, const struct inputs *inputs)
+{
+    for (size_t i = 0; i < circuit->count; i++) {
+        const struct gate *g = &circuit->gates[i];
+        if (g->kind == INPUT && g->b >= input_words(inputs, g->a))
+            return i;
+    }
+    return circuit->count;
+}
+
+/* "a bool input read is neither 0 nor 1": the lowest such gate, or the number of gates */
+static size_t reads_no_bool(const struct circuit *circuit, const struct inputs *inputs)
+{
+    for (size_t i = 0; i < circuit->count; i++) {
+        const struct gate *g = &circuit->gates[i];
+        if (g->kind == INPUT && g->c == BIT && input(inputs, g->a, g->b) > 1)
+            return i;
+    }
+    return circuit->count;
 }
 
 /* The value of a gate: of its new wire, or what it puts out. "addition wraps at 2^32"; "A bool is 0 or 1" */
@@ -154,6 +211,21 @@ static uint32_t value_of(const struct gate *g, const struct wires *wires, const 
     }
 }
 
+/* Works out the value of every wire. "Outputs are in order" */
+static void run_gates(struct circuit *circuit, const struct inputs *inputs, uint8_t *outputs)
+{
+    struct wires *wires = &circuit->wires;
+    size_t made = 0, put = 0;
+    for (size_t i = 0; i < circuit->count; i++) {
+        const struct gate *g = &circuit->gates[i];
+        uint32_t value = value_of(g, wires, inputs);
+        if (g->kind == OUT)
+            write_word(outputs, put++, value);
+        else
+            wires->value[made++] = value;
+    }
+}
+
 /* "Wire k uses tape word k, called t. Desk one gets t; for sort 3, t's lowest bit." */
 static uint32_t share_one(uint32_t sort, uint32_t t)
 {
@@ -168,6 +240,15 @@ static uint32_t share_two(uint32_t sort, uint32_t v, uint32_t t)
     if (sort == BOOLEAN)
         return v ^ t;
     return v ^ (t & 1);
+}
+
+static void write_shares(const struct wires *wires, const uint8_t *tape, uint8_t *shares1, uint8_t *shares2)
+{
+    for (size_t k = 0; k < wires->count; k++) {
+        uint32_t t = read_word(tape, k);
+        write_word(shares1, k, share_one(wires->sort[k], t));
+        write_word(shares2, k, share_two(wires->sort[k], wires->value[k], t));
+    }
 }
 
 /* "It returns number, place and zero counts, and no lent word differs afterwards." */
@@ -185,60 +266,29 @@ struct plain_answer plain_evaluate(
     uint8_t *shares2, size_t shares2_length,
     uint8_t *outputs, size_t outputs_length)
 {
-    struct gate gates[MOST_GATES];
-    struct wires wires = {.count = 0};
+    struct circuit c;
     struct inputs inputs = {inputs1, inputs2, inputs1_length, inputs2_length};
-    uint32_t outs = 0;
+    size_t at;
 
-    /* "Bytes that aren't whole words are .. 20 for a circuit"; "circuit words not a multiple of 5, or over 15,000 (place 0)" */
-    if (circuit_length % 4 != 0 || whole_words(circuit_length) % 5 != 0 || whole_words(circuit_length) > MOST_WORDS)
+    if (!fits(circuit_length))
         return refused(20, 0);
-    size_t count = read_gates(circuit, circuit_length, gates);
-
-    /* "a gate breaks the rules below" */
-    for (size_t i = 0; i < count; i++) {
-        if (!keeps_rules(gates, i, &wires))
-            return refused(21, i);
-        if (gates[i].kind == OUT) {
-            outs++;
-        } else {
-            wires.sort[wires.count] = sort_made(&gates[i], &wires);
-            wires.count++;
-        }
-    }
-
-    /* "an input read lies past the end of that desk's inputs" */
-    for (size_t i = 0; i < count; i++)
-        if (gates[i].kind == INPUT && gates[i].b >= input_words(&inputs, gates[i].a))
-            return refused(22, i);
-
-    /* "a bool input read is neither 0 nor 1" */
-    for (size_t i = 0; i < count; i++)
-        if (gates[i].kind == INPUT && gates[i].c == BIT && input(&inputs, gates[i].a, gates[i].b) > 1)
-            return refused(23, i);
-
+    read_gates(circuit, circuit_length, &c);
+    if ((at = breaks_rules(&c)) < c.count)
+        return refused(21, at);
+    if ((at = reads_past_the_end(&c, &inputs)) < c.count)
+        return refused(22, at);
+    if ((at = reads_no_bool(&c, &inputs)) < c.count)
+        return refused(23, at);
     /* "tape has fewer words than the circuit has wires (place 0)" */
-    if (whole_words(tape_length) < wires.count)
+    if (whole_words(tape_length) < c.wires.count)
         return refused(24, 0);
-
     /* "either share memory or the output memory is too short (place 0)" */
-    if (whole_words(shares1_length) < wires.count || whole_words(shares2_length) < wires.count
-        || whole_words(outputs_length) < outs)
+    if (whole_words(shares1_length) < c.wires.count || whole_words(shares2_length) < c.wires.count
+        || whole_words(outputs_length) < c.outs)
         return refused(25, 0);
 
-    /* "Outputs are in order"; it "writes only the words it needs, from the start" */
-    uint32_t made = 0, put = 0;
-    for (size_t i = 0; i < count; i++) {
-        uint32_t value = value_of(&gates[i], &wires, &inputs);
-        if (gates[i].kind == OUT)
-            write_word(outputs, put++, value);
-        else
-            wires.value[made++] = value;
-    }
-    for (uint32_t k = 0; k < wires.count; k++) {
-        uint32_t t = read_word(tape, k);
-        write_word(shares1, k, share_one(wires.sort[k], t));
-        write_word(shares2, k, share_two(wires.sort[k], wires.value[k], t));
-    }
-    return (struct plain_answer){0, 0, wires.count, outs};
+    /* it "writes only the words it needs, from the start" */
+    run_gates(&c, &inputs, outputs);
+    write_shares(&c.wires, tape, shares1, shares2);
+    return (struct plain_answer){0, 0, c.wires.count, c.outs};
 }

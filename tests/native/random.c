@@ -199,7 +199,8 @@ static void damage_length(enum memory m)
     call.length[m] -= less < call.length[m] ? less : call.length[m];
 }
 
-/* One word of a desk's inputs becomes another, mostly no bool; where a few tries find one, an input that is read as a bool. */
+/* One word of a desk's inputs becomes another, mostly no bool; where a few tries find one, an input that is read as a
+ * bool. */
 static void damage_input(enum memory m)
 {
     uint32_t words = (uint32_t)(call.length[m] / 4);

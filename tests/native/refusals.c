@@ -4,8 +4,7 @@
 /* A circuit of so many constant gates, and of so many words after them, with memory enough. */
 static void call_constants(uint32_t gates, uint32_t words)
 {
-    no_call();
-    lend_enough();
+    no_gates();
     for (uint32_t k = 0; k < gates; k++)
         add_gate(4, k, 1, k, 0);
     for (uint32_t k = 0; k < words; k++)
@@ -62,8 +61,7 @@ static void fifteen_thousand_words(void)
 
 static void three_thousand_outs_but_one(void)
 {
-    no_call();
-    lend_enough();
+    no_gates();
     add_gate(4, 77, 2, 0, 0);
     for (uint32_t k = 1; k < 3000; k++)
         add_gate(7, 0, 0, 0, 0);
@@ -74,8 +72,7 @@ static void three_thousand_outs_but_one(void)
 /* A constant, and then an input of each desk: number 2 of desk one, a uint, and number 1 of desk two, a bool. */
 static void call_inputs(size_t words1, size_t words2)
 {
-    no_call();
-    lend_enough();
+    no_gates();
     add_gate(4, 9, 1, 0, 0);
     add_gate(6, 1, 2, 1, 1);
     add_gate(7, 1, 0, 0, 0);
@@ -130,8 +127,7 @@ static void input_short_of_a_byte(void)
 /* Three bool inputs: desk one's 0, desk two's 0 and desk one's 1, at gates 0, 2 and 3. */
 static void call_bools(uint32_t one, uint32_t two, uint32_t other)
 {
-    no_call();
-    lend_enough();
+    no_gates();
     add_gate(6, 1, 0, 3, 0);
     add_gate(7, 0, 0, 0, 0);
     add_gate(6, 2, 0, 3, 1);
@@ -148,7 +144,7 @@ static void bool_neither_0_nor_1(void)
         call_bools(i & 1, i >> 1 & 1, i >> 2);
         EXPECT_ACCEPTED(3, 1);
     }
-    for (size_t i = 0; i < sizeof bad / sizeof bad[0]; i++) {
+    for (size_t i = 0; i < COUNT(bad); i++) {
         call_bools(bad[i], 1, 0);
         EXPECT_REFUSED(23, 0);
         call_bools(0, bad[i], 1);

@@ -114,11 +114,11 @@ noted-none sorts = record { count = refl; sorts-are = λ k l. absurd (omega arit
 
 module _ {gs : List Gate} {sorts : List ℕ} {w : ℕ} (noted : WiresNoted gs sorts w) where
   -- what the array says of a wire is the number of its sort
-  pub made-sort : (x : ℕ) → x < w → madeAt sorts w x ≡ sortNumber (wires gs .sort x)
+  made-sort : (x : ℕ) → x < w → madeAt sorts w x ≡ sortNumber (wires gs .sort x)
   made-sort x h = rw (lt-ltb x w h) (noted .sorts-are x (omega arith))
 
   -- and it is that of m where it is a wire of sort m
-  pub made-is : (x : ℕ) (m : Sort) → eqb (madeAt sorts w x) (sortNumber m) ≡ isWire gs x m
+  made-is : (x : ℕ) (m : Sort) → eqb (madeAt sorts w x) (sortNumber m) ≡ isWire gs x m
   unfolding isWire
   made-is x m =
       rw (← noted .count)

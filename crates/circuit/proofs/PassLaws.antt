@@ -20,12 +20,12 @@ use Rattle.rules.proofs.Earlier.{kept-gate, gates-step, wires-below}
 use Rattle.circuit.specs.Noted.{WiresNoted, Noted}
 use Rattle.circuit.proofs.CheckLaws.{noted-none, nothing-noted}
 
--- a circuit that passes check 20 has as many gates as it has twenties of bytes,
+-- a circuit has as many gates as it has twenties of bytes,
 pub gates-in : (circuit : List ℕ) → gateCount (words circuit) ≡ length circuit / 20
 unfolding gateCount
 gates-in circuit = let n = words-length circuit in omega (arith, n)
 
--- and at most 3,000
+-- and, if it passes check 20, at most 3,000
 pub gates-at-most : (circuit : List ℕ) → T (circuitFits circuit) → length circuit / 20 ≤ 3000
 unfolding circuitFits
 gates-at-most circuit fits =

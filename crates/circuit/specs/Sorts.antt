@@ -11,7 +11,7 @@ use Rattle.circuit.specs.declared.sorts.Sort.{Sort}
 abbrev pub isSort : ℕ → Bool
 isSort n = ltb 0 n && ltb n 4
 
--- the sort of a number; any other number, which no gate has, is read as 2
+-- the sort of a number; any other number, which no gate that keeps the rules has, is read as 2
 unfoldable pub sortFrom : ℕ → rules.Sort
 sortFrom n = getD (rules.boolean ∷ rules.arithmetic ∷ rules.boolean ∷ rules.bit ∷ []) n rules.boolean
 

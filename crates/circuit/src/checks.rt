@@ -40,6 +40,8 @@ fn is_next(w: usize, new: Wire) -> bool
     new.0 as usize == w
 }
 
+// Each kind of gate keeps its line of the table of gates, after gates that made w wires of these sorts.
+
 fn both_keeps(sorts: &[u32; 3000], w: usize, op: Op, first: Wire, second: Wire, new: Wire) -> bool
     requires { ⌜ w ≤ 3000 ⌝ }
     ensures { λ r. ⌜ ((gs : List rules.Gate) → WiresNoted gs (now (sorts .entry)) w
@@ -212,7 +214,8 @@ pub enum Checked {
     Broken { gate: u32 },
 }
 
-// Check 21, of a circuit that passes check 20. The sorts of its wires are noted.
+// Check 21, of a circuit that passes check 20. The sorts of its wires are noted in an array of 3,000 (a reference to an array
+// does not tell its length to a proof, so the contract does).
 pub fn check_gates(circuit: &[u8], sorts: &mut [u32; 3000]) -> Checked
     requires { ⌜ T (circuitFits (now circuit)) × (length (now sorts) ≡ 3000) ⌝ }
     ensures { λ r. ⌜ GatesChecked (now (circuit .entry)) (now (sorts .exit)) r ⌝ }

@@ -117,6 +117,7 @@ impl Gate {
         }
     }
 
+    // The input that it reads.
     pub fn reads(self) -> Read
         ensures { λ r. ⌜ r ≡ readBy self ⌝ }
     {

@@ -25,13 +25,14 @@ impl Sort {
         (0 < self.0) & (self.0 < 4)
     }
 
+    // It is the other sort.
     pub fn is(self, other: Sort) -> bool
         ensures { λ r. ⌜ r ≡ eqb (self .0) (other .0) ⌝ }
     {
         self.0 == other.0
     }
 
-    // Bringing a wire of this sort to another sort takes a convert gate; to its own, nothing.
+    // Bringing a wire of this sort to another sort takes a convert gate; to its own, nothing. (For compiling.)
     pub fn needs_convert(self, to: Sort) -> bool
         ensures { λ r. ⌜ ((k m : rules.Sort) → self ≡ asSort k → to ≡ asSort m → r ≡ not (same k m)) ⌝ }
     {

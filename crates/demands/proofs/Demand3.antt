@@ -1,17 +1,16 @@
--- Demand 3, proved of the calls of evaluation. First shares as words, and words over a memory; then tapes, as bytes and as
--- words; then what acceptance says of one call; then two calls of one circuit.
-use Prim.Native.Nat.{ℕ, suc, _*_, _≤_, _<_}
+-- Demand 3, proved of the calls of evaluation. First that shares are words; then tapes, as bytes and as words; then what
+-- acceptance says of one call; then two calls of one circuit.
+use Prim.Native.Nat.{ℕ, _*_, _≤_, _<_}
 use mathlib.Core.Path.{_≡_, sym, ap, ap₂, subst, _∙_}
-use mathlib.Core.List.{List, [], _∷_}
+use mathlib.Core.List.{List, []}
 use lib.Dec.{leb, le→leb}
-use lib.ListN.{length, getD, take, drop, List·getD-append}
-use lib.Seq.{take-at}
+use lib.ListN.{length, getD, take}
 use native.Mathlib.Omega.{arith}
 use Rattle.words.specs.Words.{words, bytesOf, over, AllWords}
-use Rattle.words.proofs.Words.{words-length, bytes-length, words-over, words-read-back, bytes-are-words, bytes-of-are-bytes, bytes-read-back}
+use Rattle.words.proofs.Words.{words-length, bytes-length, words-read-back, bytes-are-words, bytes-of-are-bytes, bytes-read-back, over-at, over-taken, words-by-place}
 use Rattle.rules.specs.Places.{accepted, fault}
 use Rattle.rules.specs.Gates.{Gate, gateCount, circuitWords, wires, AllKeep}
-use Rattle.rules.specs.Plain.{Given, plain}
+use Rattle.rules.specs.Plain.{Given, inputs, plain}
 use Rattle.rules.specs.Shares.{join, taken, tapeFor, shared, listed, sharesOne, sharesTwo, partner, Tape, Fit, Private}
 use Rattle.rules.specs.Answers.{Lent, Evaluation, evaluation, Evaluated, evaluate, evaluateAnswer, gatesOf, failing21, failing24}
 use Rattle.rules.specs.Refusals.{Clear, evaluateChecks, Evaluates}
@@ -24,12 +23,7 @@ use Rattle.rules.proofs.Memories.{zero-accepts, accepts-zero, evaluate-numbered
 use Rattle.demands.specs.Calls.{Call, Accepted, gatesIn, givenIn, deskOne, deskTwo, ExactTape, withTape}
 use Rattle.demands.specs.Demand3.{TwoRuns, pairedTape, Joins, Demand3}
 
--- Words and shares.
-
--- a list with a word at every place is words
-words-by-place : (ws : List ℕ) → ((k : ℕ) → getD ws k 0 < 4294967296) → AllWords ws
-words-by-place [] at = tt
-words-by-place (w ∷ ws) at = (at 0, words-by-place ws (λ k. at (suc k)))
+-- Shares are words.
 
 -- gates that keep the rules, fit inputs, and a tape of words
 module _ (gs : List Gate) (keep : AllKeep gs) (ws : AllWords (circuitWords gs)) {given : Given} (fit : Fit gs given) (tape : List ℕ)
@@ -50,17 +44,6 @@ module _ (gs : List Gate) (keep : AllKeep gs) (ws : AllWords (circuitWords gs)) 
       (listed-words (wires gs .count) (shared given tape gs .two)
       (λ k below. rw (two-is given tape taped gs keep ws fit k below)
       (share-two-word (wires gs .sort k) (plain given gs .value k) (getD tape k 0) (values-fit gs keep ws fit k below .0) (taped k))))
-
--- Words over a memory: the first of its words are they,
-over-taken : (ws b : List ℕ) (n : ℕ) → AllWords ws → length ws ≡ n → take n (words (over ws b)) ≡ ws
-unfolding over
-over-taken ws b n is long = rw (words-over ws (drop (4 * length ws) b) is) (take-at ws (words (drop (4 * length ws) b)) n long)
-
--- and each stands at its place.
-over-at : (ws b : List ℕ) (k : ℕ) → AllWords ws → k < length ws → getD (words (over ws b)) k 0 ≡ getD ws k 0
-unfolding over
-over-at ws b k is below =
-    rw (words-over ws (drop (4 * length ws) b) is) (List·getD-append ws (words (drop (4 * length ws) b)) 0 k below)
 
 -- Tapes, as bytes and as words.
 
@@ -175,13 +158,11 @@ module _ (c : Call) (ok : Accepted c) where
   -- so as many words of each memory as the answer counts wires are the desk's shares
   desk-one-is : deskOne c ≡ ones
   desk-one-is =
-      ap (λ (b : List ℕ). take (c .answer .wires) (words b)) one-over
-      ∙ over-taken ones (c .lent .shares1) (c .answer .wires) ones-words ones-long
+      ap₂ (λ (n : ℕ) (b : List ℕ). take n (words b)) (sym ones-long) one-over ∙ over-taken ones (c .lent .shares1) ones-words
 
   desk-two-is : deskTwo c ≡ twos
   desk-two-is =
-      ap (λ (b : List ℕ). take (c .answer .wires) (words b)) two-over
-      ∙ over-taken twos (c .lent .shares2) (c .answer .wires) twos-words twos-long
+      ap₂ (λ (n : ℕ) (b : List ℕ). take n (words b)) (sym twos-long) two-over ∙ over-taken twos (c .lent .shares2) twos-words
 
   -- word k of each desk's memory is its share of wire k
   one-at : (k : ℕ) → k < wires (gatesIn c) .count
@@ -189,7 +170,7 @@ module _ (c : Call) (ok : Accepted c) where
   unfolding sharesOne
   one-at k below =
       ap (λ (b : List ℕ). getD (words b) k 0) one-over
-      ∙ over-at ones (c .lent .shares1) k ones-words (omega (arith, ones-long, counts-wires))
+      ∙ over-at ones (c .lent .shares1) ones-words k (omega (arith, ones-long, counts-wires))
       ∙ getD-listed (wires (gatesIn c) .count) (shared (givenIn c) (words (c .lent .tape)) (gatesIn c) .one) k 0 below
 
   two-at : (k : ℕ) → k < wires (gatesIn c) .count
@@ -197,7 +178,7 @@ module _ (c : Call) (ok : Accepted c) where
   unfolding sharesTwo
   two-at k below =
       ap (λ (b : List ℕ). getD (words b) k 0) two-over
-      ∙ over-at twos (c .lent .shares2) k twos-words (omega (arith, twos-long, counts-wires))
+      ∙ over-at twos (c .lent .shares2) twos-words k (omega (arith, twos-long, counts-wires))
       ∙ getD-listed (wires (gatesIn c) .count) (shared (givenIn c) (words (c .lent .tape)) (gatesIn c) .two) k 0 below
 
   -- every wire's two shares join to its plain value
@@ -212,13 +193,17 @@ module _ (c : Call) (ok : Accepted c) where
       }
 
   -- no check but 24 looks at the tape, and 24 only at its length: with any other exact tape the call is accepted too
-  pub other-tape-accepted : (t : List ℕ) → ExactTape (gatesIn c) t → evaluateAnswer (withTape t (c .lent)) .number ≡ 0
+  other-tape-accepted : (t : List ℕ) → ExactTape (gatesIn c) t → evaluateAnswer (withTape t (c .lent)) .number ≡ 0
   unfolding evaluateAnswer
   other-tape-accepted t exact =
       let (no-20, (no-21, (no-22, (no-23, (no-24, (no-25, end)))))) = clear in
       let still : Clear (evaluateChecks (withTape t (c .lent))) =
       (no-20, (no-21, (no-22, (no-23, (tape-enough (gatesIn c) t exact, (no-25, end)))))) in
       accepts-zero (evaluate-is (withTape t (c .lent)) (Evaluates.all-hold still))
+
+-- a call of what is answered with number 0 is accepted
+zero-accepted : (c : Call) (l : Lent) → c .lent ≡ l → evaluateAnswer l .number ≡ 0 → Accepted c
+zero-accepted c l e zero = ap (λ (a : Evaluated). a .number) (c .promise .answer-is ∙ ap evaluateAnswer e) ∙ zero
 
 -- Two calls.
 
@@ -261,7 +246,7 @@ module _ (a b : Call) (runs : TwoRuns a b) where
       ∙ ap₂ (λ (t : List ℕ) (gs : List Gate). sharesOne (givenIn b) (words t) gs) e same-gates
       ∙ sym (desk-one-is b (runs .accepted-b))
 
-  -- with paired tapes desk two has the same
+  -- where b's tape is the pair of a's, desk two has the same
   two-same : ExactTape (gatesIn a) (a .lent .tape) → b .lent .tape ≡ pairedTape a b (a .lent .tape) → deskTwo a ≡ deskTwo b
   two-same exact e =
       desk-two-is a (runs .accepted-a)
@@ -269,21 +254,56 @@ module _ (a b : Call) (runs : TwoRuns a b) where
       ∙ ap₂ (sharesTwo (givenIn b)) (sym (ap words e ∙ paired-words (a .lent .tape) exact)) same-gates
       ∙ sym (desk-two-is b (runs .accepted-b))
 
+-- the pair of the tape in l, for the inputs in m
+abbrev pairOf : Lent → Lent → List ℕ
+pairOf l m =
+    let given : Given = inputs (words (l .inputs1)) (words (l .inputs2)) in
+    let given' : Given = inputs (words (m .inputs1)) (words (m .inputs2)) in
+    bytesOf (partner (gatesOf (l .circuit)) given given' (words (l .tape)))
+
+-- Two calls, and two more that were lent the same but for their tapes: a tape and its pair.
+module _ (a b : Call) (runs : TwoRuns a b) (t : List ℕ) (exact : ExactTape (gatesIn a) t) where
+  -- both are accepted
+  both-accepted : (evaluateAnswer (withTape t (a .lent)) .number ≡ 0) × (evaluateAnswer (withTape (pairedTape a b t) (b .lent)) .number ≡ 0)
+  both-accepted = (
+    other-tape-accepted a (runs .accepted-a) t exact,
+    other-tape-accepted b (runs .accepted-b) (pairedTape a b t) (paired-exact a b runs t exact),
+  )
+
+  module _ (a' b' : Call) (lent-a : a' .lent ≡ withTape t (a .lent)) (lent-b : b' .lent ≡ withTape (pairedTape a b t) (b .lent)) where
+    -- they are two runs of the circuit
+    more-runs : TwoRuns a' b'
+    more-runs =
+        record {
+          accepted-a = zero-accepted a' (withTape t (a .lent)) lent-a (both-accepted .0);
+          accepted-b = zero-accepted b' (withTape (pairedTape a b t) (b .lent)) lent-b (both-accepted .1);
+          same-circuit = ap (λ (l : Lent). l .circuit) lent-a ∙ runs .same-circuit ∙ sym (ap (λ (l : Lent). l .circuit) lent-b);
+        }
+
+    -- their tapes are paired
+    still-paired : b' .lent .tape ≡ pairedTape a' b' (a' .lent .tape)
+    still-paired = ap (λ (l : Lent). l .tape) lent-b ∙ sym (ap₂ pairOf lent-a lent-b)
+
+    -- so desk two has the same
+    two-same-paired : deskTwo a' ≡ deskTwo b'
+    two-same-paired =
+        two-same a' b' more-runs (subst (λ (l : Lent). ExactTape (gatesOf (l .circuit)) (l .tape)) (sym lent-a) exact) still-paired
+
 -- the other way round
 turned : (a b : Call) → TwoRuns a b → TwoRuns b a
 turned a b runs = record { accepted-a = runs .accepted-b; accepted-b = runs .accepted-a; same-circuit = sym (runs .same-circuit) }
 
 -- Demand 3 holds of any two accepted calls of one circuit
-pub demand-3 : (a b : Call) → TwoRuns a b → Demand3 a b
-demand-3 a b runs =
+pub demand-3-of-calls : (a b : Call) → TwoRuns a b → Demand3 a b
+demand-3-of-calls a b runs =
     record {
       desk-one = one-same a b runs;
       there = paired-exact a b runs;
       back = paired-exact b a (turned a b runs);
       there-back = paired-back a b runs;
       back-there = paired-back b a (turned a b runs);
-      desk-two = two-same a b runs;
-      paired-accepted = λ t exact. other-tape-accepted b (runs .accepted-b) (pairedTape a b t) (paired-exact a b runs t exact);
+      paired-accepted = both-accepted a b runs;
+      desk-two = two-same-paired a b runs;
       joins-a = joins a (runs .accepted-a);
       joins-b = joins b (runs .accepted-b);
     }

@@ -1,4 +1,5 @@
--- Calls of evaluation: any lent bytes, and any end that the contract allows. The demands are said of these.
+-- Calls of evaluation (document 01, "Order of refusals"): any lent bytes, and any end that the contract allows. The demands are
+-- said of these.
 use Prim.Native.Nat.{ℕ, _*_}
 use mathlib.Core.Path.{_≡_}
 use mathlib.Core.List.{List}
@@ -28,7 +29,9 @@ pub record Call : Type 0 where
   pub one : List ℕ
   pub two : List ℕ
   pub outs : List ℕ
+  -- a slice of u8 gives this; no contract has to
   pub bytes : AllBytesLent lent
+  -- the contract
   pub promise : Promise lent answer one two outs
 
 -- the call is accepted

@@ -1,6 +1,7 @@
--- Demand 3 of document 01: "Desk one's shares are the same in any two runs with one tape; for desk two the tapes pair one to
--- one so that its shares are the same; every wire's two shares join to the value a plain reading of the gates gives." It
--- speaks of runs that evaluation accepts; the pairing is of tapes with exactly as many words as wires.
+-- Demand 3, as docs/PROMISES.md words it: desk one's shares are the same in any two runs with one tape; for desk two the tapes
+-- pair one to one so that its shares are the same; every wire's two shares join to the value that a plain reading of the gates
+-- gives. Document 01, "Shares", says of which runs it speaks: those that evaluation accepts; and of which tapes the pairing is:
+-- those with exactly as many words as wires.
 use Prim.Native.Nat.{ℕ, _<_}
 use mathlib.Core.Path.{_≡_}
 use mathlib.Core.List.{List}
@@ -37,10 +38,12 @@ pub record Demand3 (a b : Call) : Type 0 where
   pub back : (t : List ℕ) → ExactTape (gatesIn b) t → ExactTape (gatesIn a) (pairedTape b a t)
   pub there-back : (t : List ℕ) → ExactTape (gatesIn a) t → pairedTape b a (pairedTape a b t) ≡ t
   pub back-there : (t : List ℕ) → ExactTape (gatesIn b) t → pairedTape a b (pairedTape b a t) ≡ t
-  -- with paired tapes desk two's shares are the same
-  pub desk-two : ExactTape (gatesIn a) (a .lent .tape) → b .lent .tape ≡ pairedTape a b (a .lent .tape) → deskTwo a ≡ deskTwo b
-  -- and there is such a run: what was lent to b, but with the paired tape, is accepted too
-  pub paired-accepted : (t : List ℕ) → ExactTape (gatesIn a) t → evaluateAnswer (withTape (pairedTape a b t) (b .lent)) .number ≡ 0
+  -- with any tape and its pair, and all else as it was lent to a and to b, evaluation accepts
+  pub paired-accepted : (t : List ℕ) → ExactTape (gatesIn a) t
+      → (evaluateAnswer (withTape t (a .lent)) .number ≡ 0) × (evaluateAnswer (withTape (pairedTape a b t) (b .lent)) .number ≡ 0)
+  -- and desk two's shares are the same in any two such runs
+  pub desk-two : (t : List ℕ) → ExactTape (gatesIn a) t
+      → (a' b' : Call) → a' .lent ≡ withTape t (a .lent) → b' .lent ≡ withTape (pairedTape a b t) (b .lent) → deskTwo a' ≡ deskTwo b'
   -- each wire's shares join to its plain value
   pub joins-a : Joins a
   pub joins-b : Joins b

@@ -39,6 +39,7 @@ fn refusal(why: Refusal) -> Evaluated
     }
 }
 
+// The paper's numbers of an answer.
 fn numbers(answer: Answer) -> Evaluated
     ensures { λ r. ⌜ asNumbers r ≡ answered answer ⌝ }
 {

@@ -5,7 +5,7 @@ use mathlib.Core.Logic.{inl}
 use mathlib.Core.Bool.{Bool, true, false, _&&_, false≢true}
 use mathlib.Core.List.{List, [], reverse}
 use lib.Dec.{T, leb}
-use lib.ListN.{length, length-reverse}
+use lib.ListN.{length, take, length-reverse}
 use native.Mathlib.Omega.{arith}
 use borrow.Author.Tests.{lt-leb, le-leb, leb-true}
 use Rattle.words.specs.Words.{words}
@@ -15,16 +15,15 @@ use Rattle.rules.specs.Gates.{Gate, wires, gateCount, circuitFits}
 use Rattle.rules.specs.Plain.{inputs}
 use Rattle.rules.specs.Shares.{tapeFor, shared}
 use Rattle.rules.specs.Answers.{Lent, evaluation, evaluate, evaluateAnswer, leavesOne, leavesTwo, leavesOuts}
-use Rattle.rules.specs.Answers.{gatesOf, outCount, failing20, failing21, failing22, failing23, failing24, failing25}
-use Rattle.rules.specs.Refusals.{Lowest, Evaluates}
+use Rattle.rules.specs.Answers.{gatesOf, outCount, FitInputs, failing20, failing21, failing22, failing23, failing24, failing25}
+use Rattle.rules.specs.Refusals.{Lowest, Clear, evaluateChecks, Evaluates}
 use Rattle.rules.proofs.Places.{none-fault}
 use Rattle.rules.proofs.Refusals.{evaluates}
 use Rattle.rules.proofs.Circuits.{wires-and-outs, outs-of-shares}
 use Rattle.rules.proofs.Earlier.{gates-all}
-use Rattle.circuit.specs.Noted.{WiresNoted}
 use Rattle.circuit.proofs.PassLaws.{gates-in, gates-at-most}
 use Rattle.evaluate.specs.Promise.{Promise}
-use Rattle.evaluate.specs.Held.{memories, Ready, Done}
+use Rattle.evaluate.specs.Held.{memories, GatesPass, Ready, Done}
 
 -- two tests that are true together are true each
 both-true : (a b : Bool) → (a && b) ≡ true → (a ≡ true) × (b ≡ true)
@@ -32,8 +31,10 @@ both-true true b e = (refl, e)
 both-true false b e = absurd (false≢true e)
 
 -- a refusal by a line of the table answers its number and place, and leaves every memory as it was
-pub promise-refused : (l : Lent) {k p : ℕ} → Evaluates l (refused k p)
-    → Promise l (record { number = k; place = p; wires = 0; outputs = 0 }) (l .shares1) (l .shares2) (l .outputs)
+abbrev pub Refuses : Lent → ℕ → ℕ → Type 0
+Refuses l k p = Promise l (record { number = k; place = p; wires = 0; outputs = 0 }) (l .shares1) (l .shares2) (l .outputs)
+
+promise-refused : (l : Lent) {k p : ℕ} → Evaluates l (refused k p) → Refuses l k p
 unfolding evaluateAnswer leavesOne leavesTwo leavesOuts
 promise-refused l {k} {p} case =
     let is : evaluate l ≡ refused k p = evaluates l (refused k p) .0 case in
@@ -49,20 +50,20 @@ module _ (l : Lent) where
   gs = gatesOf (l .circuit)
 
   -- 20
-  pub refuse-20 : circuitFits (l .circuit) ≡ false → Lowest 0 (failing20 (l .circuit))
+  refuse-20 : circuitFits (l .circuit) ≡ false → Lowest 0 (failing20 (l .circuit))
   unfolding failing20
   refuse-20 e = lowest-zero (circuitFits (l .circuit)) e
 
-  pub pass-20 : T (circuitFits (l .circuit)) → failing20 (l .circuit) ≡ []
+  pass-20 : T (circuitFits (l .circuit)) → failing20 (l .circuit) ≡ []
   unfolding failing20
   pass-20 t = none-fault (circuitFits (l .circuit)) 0 t
 
   -- 24
-  pub refuse-24 : length (l .tape) / 4 < wires gs .count → Lowest 0 (failing24 gs (l .tape))
+  refuse-24 : length (l .tape) / 4 < wires gs .count → Lowest 0 (failing24 gs (l .tape))
   unfolding failing24 tapeFor
   refuse-24 h = lowest-zero _ (lt-leb (wires gs .count) (length (words (l .tape))) (omega (arith, words-length (l .tape))))
 
-  pub pass-24 : wires gs .count ≤ length (l .tape) / 4 → failing24 gs (l .tape) ≡ []
+  pass-24 : wires gs .count ≤ length (l .tape) / 4 → failing24 gs (l .tape) ≡ []
   unfolding failing24 tapeFor
   pass-24 h = rw (le-leb (wires gs .count) (length (words (l .tape))) (omega (arith, words-length (l .tape)))) (none-fault true 0 tt)
 
@@ -75,106 +76,99 @@ module _ (l : Lent) where
   unfolding failing25
   room-is = rw (words-length (l .shares1), words-length (l .shares2), words-length (l .outputs))
 
-  pub refuse-25 : room ≡ false → Lowest 0 (failing25 gs (l .shares1) (l .shares2) (l .outputs))
+  refuse-25 : room ≡ false → Lowest 0 (failing25 gs (l .shares1) (l .shares2) (l .outputs))
   refuse-25 e = rw room-is (lowest-zero room e)
 
-  pub pass-25 : room ≡ true → failing25 gs (l .shares1) (l .shares2) (l .outputs) ≡ []
+  pass-25 : room ≡ true → failing25 gs (l .shares1) (l .shares2) (l .outputs) ≡ []
   unfolding fault
   pass-25 e = rw (room-is, e)
 
   -- the first two refusals
-  pub promise-20 : circuitFits (l .circuit) ≡ false
-      → Promise l (record { number = 20; place = 0; wires = 0; outputs = 0 }) (l .shares1) (l .shares2) (l .outputs)
+  pub promise-20 : circuitFits (l .circuit) ≡ false → Refuses l 20 0
   promise-20 e = promise-refused l (Evaluates.with-20 (refuse-20 e))
 
-  pub promise-21 : {p : ℕ} → T (circuitFits (l .circuit)) → Lowest p (failing21 (words (l .circuit)))
-      → Promise l (record { number = 21; place = p; wires = 0; outputs = 0 }) (l .shares1) (l .shares2) (l .outputs)
+  pub promise-21 : {p : ℕ} → T (circuitFits (l .circuit)) → Lowest p (failing21 (words (l .circuit))) → Refuses l 21 p
   promise-21 fits low = promise-refused l (Evaluates.with-21 (pass-20 fits, tt) low)
 
--- Of a circuit that passes 20 and 21 and makes w wires, whose sorts are in the array.
-module _ (l : Lent) (sorts : List ℕ) (w : ℕ)
-    (checked : T (circuitFits (l .circuit)) × ((failing21 (words (l .circuit)) ≡ []) × WiresNoted (gatesOf (l .circuit)) sorts w)) where
-  abbrev there : List ℕ
-  there = failing22 (words (l .circuit)) (words (l .inputs1)) (words (l .inputs2))
-
-  abbrev fit : List ℕ
-  fit = failing23 (words (l .circuit)) (words (l .inputs1)) (words (l .inputs2))
-
-  abbrev wide : Bool
-  wide = leb w (length (l .shares1) / 4)
-      && (leb w (length (l .shares2) / 4) && leb (length (l .circuit) / 20 - w) (length (l .outputs) / 4))
-
+-- Once the gates pass.
+module _ (l : Lent) (sorts : List ℕ) (w : ℕ) (pass : GatesPass (l .circuit) sorts w) where
   -- each gate makes a wire or an output
   pub wires-or-outs : length (l .circuit) / 20 ≡ w + outCount (gs l)
   unfolding failing21 gatesOf
   wires-or-outs =
-      sym (gates-in (l .circuit)) ∙ sym (gates-all (words (l .circuit)) (gateCount (words (l .circuit))) (checked .1 .0))
-      ∙ wires-and-outs (gs l) ∙ ap (λ k. k + outCount (gs l)) (sym (checked .1 .1 .count))
+      sym (gates-in (l .circuit)) ∙ sym (gates-all (words (l .circuit)) (gateCount (words (l .circuit))) (pass .1 .0))
+      ∙ wires-and-outs (gs l) ∙ ap (λ k. k + outCount (gs l)) (sym (pass .1 .1 .count))
 
   pub few-gates : length (l .circuit) / 20 ≤ 3000
-  few-gates = gates-at-most (l .circuit) (checked .0)
+  few-gates = gates-at-most (l .circuit) (pass .0)
 
-  wide-is : wide ≡ room l
-  wide-is =
-      let rest : length (l .circuit) / 20 - w ≡ outCount (gs l) = omega (arith, wires-or-outs) in
-      rw (rest, checked .1 .1 .count)
+  pub promise-22 : {p : ℕ} → Lowest p (failing22 (words (l .circuit)) (words (l .inputs1)) (words (l .inputs2))) → Refuses l 22 p
+  promise-22 low = promise-refused l (Evaluates.with-22 (pass-20 l (pass .0), (pass .1 .0, tt)) low)
 
-  -- the refusals after them
-  pub promise-22 : {p : ℕ} → Lowest p there → Promise l (record { number = 22; place = p; wires = 0; outputs = 0 }) (l .shares1) (l .shares2) (l .outputs)
-  promise-22 low = promise-refused l (Evaluates.with-22 (pass-20 l (checked .0), (checked .1 .0, tt)) low)
+  pub promise-23 : {p : ℕ} → failing22 (words (l .circuit)) (words (l .inputs1)) (words (l .inputs2)) ≡ []
+      → Lowest p (failing23 (words (l .circuit)) (words (l .inputs1)) (words (l .inputs2))) → Refuses l 23 p
+  promise-23 no-22 low = promise-refused l (Evaluates.with-23 (pass-20 l (pass .0), (pass .1 .0, (no-22, tt))) low)
 
-  pub promise-23 : {p : ℕ} → there ≡ [] → Lowest p fit
-      → Promise l (record { number = 23; place = p; wires = 0; outputs = 0 }) (l .shares1) (l .shares2) (l .outputs)
-  promise-23 no-22 low = promise-refused l (Evaluates.with-23 (pass-20 l (checked .0), (checked .1 .0, (no-22, tt))) low)
+  -- Once the inputs pass too.
+  module _ (fit : FitInputs (l .circuit) (l .inputs1) (l .inputs2)) where
+    abbrev four : Clear (take 4 (evaluateChecks l))
+    four = (pass-20 l (pass .0), (pass .1 .0, (fit .no-22, (fit .no-23, tt))))
 
-  pub promise-24 : there ≡ [] → fit ≡ [] → length (l .tape) / 4 < w
-      → Promise l (record { number = 24; place = 0; wires = 0; outputs = 0 }) (l .shares1) (l .shares2) (l .outputs)
-  promise-24 no-22 no-23 short =
-      promise-refused l
-      (Evaluates.with-24 (pass-20 l (checked .0), (checked .1 .0, (no-22, (no-23, tt)))) (refuse-24 l (omega (arith, checked .1 .1 .count))))
+    pub promise-24 : length (l .tape) / 4 < w → Refuses l 24 0
+    promise-24 short = promise-refused l (Evaluates.with-24 four (refuse-24 l (omega (arith, pass .1 .1 .count))))
 
-  -- the tape is long enough
-  tape-passes : w ≤ length (l .tape) / 4 → failing24 (gs l) (l .tape) ≡ []
-  tape-passes long = pass-24 l (omega (arith, checked .1 .1 .count))
+    -- Once the tape is long enough.
+    module _ (long : w ≤ length (l .tape) / 4) where
+      abbrev five : Clear (take 5 (evaluateChecks l))
+      five = (four .0, (four .1 .0, (four .1 .1 .0, (four .1 .1 .1 .0, (pass-24 l (omega (arith, pass .1 .1 .count)), tt)))))
 
-  pub promise-25 : there ≡ [] → fit ≡ [] → w ≤ length (l .tape) / 4 → wide ≡ false
-      → Promise l (record { number = 25; place = 0; wires = 0; outputs = 0 }) (l .shares1) (l .shares2) (l .outputs)
-  promise-25 no-22 no-23 long narrow =
-      promise-refused l
-      (Evaluates.with-25 (pass-20 l (checked .0), (checked .1 .0, (no-22, (no-23, (tape-passes long, tt))))) (refuse-25 l (sym wide-is ∙ narrow)))
+      -- the code's test of the memories is the check's
+      abbrev enough : Bool
+      enough = leb w (length (l .shares1) / 4)
+          && (leb w (length (l .shares2) / 4) && leb (length (l .circuit) / 20 - w) (length (l .outputs) / 4))
 
-  -- with memory enough the run may begin,
-  pub ready-to-run : w ≤ length (l .tape) / 4 → wide ≡ true → Ready (l .circuit) (l .tape) sorts (memories (l .shares1) (l .shares2) (l .outputs))
-  ready-to-run long enough =
-      let (one, rest) = both-true (leb w (length (l .shares1) / 4)) _ enough in
-      let (two, outs) = both-true (leb w (length (l .shares2) / 4)) _ rest in
-      let one-enough : w ≤ length (l .shares1) / 4 = leb-true _ _ one in
-      let two-enough : w ≤ length (l .shares2) / 4 = leb-true _ _ two in
-      let outs-enough : length (l .circuit) / 20 - w ≤ length (l .outputs) / 4 = leb-true _ _ outs in
-      record {
-        keeps = checked .1 .0;
-        few = omega (arith, gates-in (l .circuit), few-gates);
-        sorts-are = checked .1 .1 .sorts-are;
-        tape-long = omega (arith, checked .1 .1 .count);
-        one-long = omega (arith, checked .1 .1 .count);
-        two-long = omega (arith, checked .1 .1 .count);
-        outs-long = omega (arith, wires-or-outs);
-      }
+      enough-is : enough ≡ room l
+      enough-is =
+          let rest : length (l .circuit) / 20 - w ≡ outCount (gs l) = omega (arith, wires-or-outs) in
+          rw (rest, pass .1 .1 .count)
 
-  -- and its end is the promise
-  pub promise-accepted : there ≡ [] → fit ≡ [] → w ≤ length (l .tape) / 4 → wide ≡ true → {one two outs : List ℕ}
-      → Done (l .circuit) (inputs (words (l .inputs1)) (words (l .inputs2))) (words (l .tape)) (memories (l .shares1) (l .shares2) (l .outputs)) (memories one two outs)
-      → Promise l (record { number = 0; place = 0; wires = w; outputs = length (l .circuit) / 20 - w }) one two outs
-  unfolding evaluateAnswer leavesOne leavesTwo leavesOuts
-  promise-accepted no-22 no-23 long enough done =
-      let given = inputs (words (l .inputs1)) (words (l .inputs2)) in
-      let is : evaluate l ≡ accepted (evaluation (gs l) given (words (l .tape))) =
-      evaluates l _ .0 (Evaluates.all-hold (pass-20 l (checked .0), (checked .1 .0, (no-22, (no-23, (tape-passes long, (pass-25 l (sym wide-is ∙ enough), tt))))))) in
-      let rest : length (l .circuit) / 20 - w ≡ length (reverse (shared given (words (l .tape)) (gs l) .outs)) =
-      omega (arith, wires-or-outs, length-reverse (shared given (words (l .tape)) (gs l) .outs), outs-of-shares given (words (l .tape)) (gs l)) in
-      record {
-        answer-is = rw (is, rest, checked .1 .1 .count);
-        one-is = rw is (done .one-is);
-        two-is = rw is (done .two-is);
-        outs-are = rw is (done .outs-are);
-      }
+      pub promise-25 : enough ≡ false → Refuses l 25 0
+      promise-25 e = promise-refused l (Evaluates.with-25 five (refuse-25 l (sym enough-is ∙ e)))
+
+      -- with memory enough the run may begin,
+      pub ready-to-run : enough ≡ true → Ready (l .circuit) (l .tape) sorts (memories (l .shares1) (l .shares2) (l .outputs))
+      ready-to-run e =
+          let (one, rest) = both-true (leb w (length (l .shares1) / 4)) _ e in
+          let (two, outs) = both-true (leb w (length (l .shares2) / 4)) _ rest in
+          let one-enough : w ≤ length (l .shares1) / 4 = leb-true _ _ one in
+          let two-enough : w ≤ length (l .shares2) / 4 = leb-true _ _ two in
+          let outs-enough : length (l .circuit) / 20 - w ≤ length (l .outputs) / 4 = leb-true _ _ outs in
+          record {
+            keeps = pass .1 .0;
+            few = omega (arith, gates-in (l .circuit), few-gates);
+            sorts-are = pass .1 .1 .sorts-are;
+            tape-long = omega (arith, pass .1 .1 .count);
+            one-long = omega (arith, pass .1 .1 .count);
+            two-long = omega (arith, pass .1 .1 .count);
+            outs-long = omega (arith, wires-or-outs);
+          }
+
+      -- and its end is the promise
+      pub promise-accepted : enough ≡ true → {one two outs : List ℕ}
+          → Done (l .circuit) (inputs (words (l .inputs1)) (words (l .inputs2))) (words (l .tape)) (memories (l .shares1) (l .shares2) (l .outputs))
+          (memories one two outs)
+          → Promise l (record { number = 0; place = 0; wires = w; outputs = length (l .circuit) / 20 - w }) one two outs
+      unfolding evaluateAnswer leavesOne leavesTwo leavesOuts
+      promise-accepted e done =
+          let given = inputs (words (l .inputs1)) (words (l .inputs2)) in
+          let outs = shared given (words (l .tape)) (gs l) .outs in
+          let six : Clear (evaluateChecks l) = (five .0, (five .1 .0, (five .1 .1 .0, (five .1 .1 .1 .0, (five .1 .1 .1 .1 .0, (pass-25 l (sym enough-is ∙ e), tt)))))) in
+          let is : evaluate l ≡ accepted (evaluation (gs l) given (words (l .tape))) = evaluates l _ .0 (Evaluates.all-hold six) in
+          let rest : length (l .circuit) / 20 - w ≡ length (reverse outs) =
+          omega (arith, wires-or-outs, length-reverse outs, outs-of-shares given (words (l .tape)) (gs l)) in
+          record {
+            answer-is = rw (is, rest, pass .1 .1 .count);
+            one-is = rw is (done .one-is);
+            two-is = rw is (done .two-is);
+            outs-are = rw is (done .outs-are);
+          }

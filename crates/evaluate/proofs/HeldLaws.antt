@@ -6,10 +6,10 @@ use mathlib.Core.Bool.{cond}
 use mathlib.Core.Option.{Option, none, some}
 use mathlib.Core.List.{List, [], _∷_, _++_, reverse, reverse-cons}
 use lib.Dec.{T}
-use lib.ListN.{length, getD, length-reverse, List·getD-append}
+use lib.ListN.{length, getD, length-reverse}
 use native.Mathlib.Omega.{arith}
 use Rattle.words.specs.Words.{words, over, putAt, AllWords}
-use Rattle.words.proofs.Words.{put-length, put-over, over-none, words-over, words-both}
+use Rattle.words.proofs.Words.{put-length, put-over, over-none, over-at, words-both}
 use Rattle.rules.specs.Sorts.{Sort}
 use Rattle.rules.specs.Gates.{Gate, makes, sortMade, wires, keepsRules}
 use Rattle.rules.specs.Plain.{Given, valueOf, but}
@@ -35,9 +35,7 @@ put-next ws b now i x is here room =
 
 -- the values of a function, over a memory, are read back
 read-over : (n : ℕ) (f : ℕ → ℕ) (b : List ℕ) → AllWords (listed n f) → (k : ℕ) → k < n → getD (words (over (listed n f) b)) k 0 ≡ f k
-unfolding over
-read-over n f b fit k below =
-    rw (words-over (listed n f) _ fit) (List·getD-append (listed n f) _ 0 k (omega (arith, length-listed n f)) ∙ getD-listed n f k 0 below)
+read-over n f b fit k below = over-at (listed n f) b fit k (omega (arith, length-listed n f)) ∙ getD-listed n f k 0 below
 
 -- a function but for its value at the next place: its list is one longer
 listed-but : (n new : ℕ) (x f : ℕ → ℕ) → new ≡ n → listed (suc n) (but new (x new) f) ≡ listed n f ++ x n ∷ []
@@ -181,7 +179,7 @@ module _ {given : Given} {tape : List ℕ} {gs : List Gate} {lent now : Memories
       }
 
   -- the value of a wire that stands is joined of the memories
-  pub held-joined : Held given tape gs lent now w m → (sorts : List ℕ) → SortsOf gs sorts → (k : ℕ) → k < w
+  held-joined : Held given tape gs lent now w m → (sorts : List ℕ) → SortsOf gs sorts → (k : ℕ) → k < w
       → joinedIn sorts (now .one) (now .two) k ≡ joinedAt (wires gs .sort) (shared given tape gs) k
   unfolding sharesOne sharesTwo
   held-joined held sorts all k below =

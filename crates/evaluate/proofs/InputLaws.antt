@@ -17,7 +17,6 @@ use Rattle.rules.proofs.Places.{first-fails, passes-on}
 use Rattle.rules.proofs.Earlier.{gate-kept}
 use Rattle.circuit.specs.Sorts.{sortFrom}
 use Rattle.circuit.specs.Gates.{meantGate, readBy}
-use Rattle.circuit.specs.declared.sorts.Sort as code-sort
 use Rattle.circuit.specs.declared.gates.Read as code-read
 use Rattle.circuit.specs.declared.gates.Gate as code
 use Rattle.circuit.specs.declared.gates.Gate.the-variants.{Both, Mux, Constant, Convert, Input, Out, Nothing}
@@ -25,7 +24,7 @@ use Rattle.circuit.proofs.SortLaws.{sort-of-number}
 use Rattle.circuit.proofs.CheckLaws.{read-as, read-sorted}
 use Rattle.circuit.proofs.PassLaws.{gates-in}
 use Rattle.evaluate.specs.declared.inputs.InputCheck.{InputCheck}
-use Rattle.evaluate.specs.declared.inputs.InputCheck.the-variants.{There, Fit}
+use Rattle.evaluate.specs.declared.inputs.InputCheck.the-variants.{Present, FitsSort}
 use Rattle.evaluate.specs.InputChecks.{inputTest, failingOf, Found}
 
 -- past the last whole word there is none
@@ -55,8 +54,8 @@ passesAt check c one two i = entryTest (inputTest check one two) (gateAt c i)
 -- the gates that fail it
 failing-is : (check : InputCheck) (c one two : List ℕ) → failingOf check c one two ≡ failingBelow (passesAt check c one two) (gateCount c)
 unfolding failing22 failing23
-failing-is There c one two = refl
-failing-is Fit c one two = refl
+failing-is Present c one two = refl
+failing-is FitsSort c one two = refl
 
 module _ (check : InputCheck) (circuit one two : List ℕ) where
   -- none of the first i gates fails

@@ -67,7 +67,7 @@ module _ (given : Given) (f : ℕ → ℕ) (r : ℕ) where
   output-gives x e is = read-as Gives e is
 
 -- the wires that a gate reads have places, where all that were made have
-pub wires-in : (gs : List Gate) (one two : List ℕ) → wires gs .count ≤ 3000 → 4 * wires gs .count ≤ length one → 4 * wires gs .count ≤ length two
+wires-in : (gs : List Gate) (one two : List ℕ) → wires gs .count ≤ 3000 → 4 * wires gs .count ≤ length one → 4 * wires gs .count ≤ length two
     → (gate : code.Gate) {g : Gate} → meantGate gate ≡ some g → T (keepsRules gs g) → WiresIn one two gate
 wires-in gs one two few long1 long2 = go
   where
@@ -196,7 +196,7 @@ module _ {circuit tape sorts : List ℕ} {now : Memories} {i w m : ℕ} (before 
     turned-output v value outs-are lent held =
         rw (step, outs-are) (held-out g no-wire held v (value g is ∙ held-value held sorts sorts-so-far g ok) new-output-in)
 
--- The run: the first i gates are held, and the memories are as long as they were.
+-- The run: the first i gates are held.
 pub record Running (circuit : List ℕ) (given : Given) (tape : List ℕ) (lent now : Memories) (i w m : ℕ) : Type 0 where
   pub within : i ≤ gateCount (words circuit)
   pub held : Held given (words tape) (gatesTo (words circuit) i) lent now w m

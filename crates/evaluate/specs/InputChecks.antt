@@ -11,17 +11,17 @@ use Rattle.rules.specs.Plain.{ofDesk, inputs}
 use Rattle.rules.specs.Answers.{failing22, failing23}
 use Rattle.rules.specs.Refusals.{Lowest}
 use Rattle.evaluate.specs.declared.inputs.InputCheck.{InputCheck}
-use Rattle.evaluate.specs.declared.inputs.InputCheck.the-variants.{There, Fit}
+use Rattle.evaluate.specs.declared.inputs.InputCheck.the-variants.{Present, FitsSort}
 
 -- input n of desk d, read at sort m, of both desks' inputs
 abbrev pub inputTest : InputCheck → List ℕ → List ℕ → ℕ → ℕ → Sort → Bool
-inputTest There one two d n m = ltb n (length (ofDesk one two d))
-inputTest Fit one two d n m = fitsSort m (inputs one two d n)
+inputTest Present one two d n m = ltb n (length (ofDesk one two d))
+inputTest FitsSort one two d n m = fitsSort m (inputs one two d n)
 
 -- the gates that fail it
 abbrev pub failingOf : InputCheck → List ℕ → List ℕ → List ℕ → List ℕ
-failingOf There c one two = failing22 c one two
-failingOf Fit c one two = failing23 c one two
+failingOf Present c one two = failing22 c one two
+failingOf FitsSort c one two = failing23 c one two
 
 -- r is the lowest of these places below n, or not below n where there is none
 pub record Found (ps : List ℕ) (n r : ℕ) : Type 0 where

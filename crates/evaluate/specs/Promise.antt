@@ -9,27 +9,27 @@ use Rattle.evaluate.specs.declared.Answer.{Answer}
 use Rattle.evaluate.specs.declared.Answer.the-variants.{Accepted, Refused}
 
 -- the paper's number of a refusal
-abbrev pub numberOf : Refusal → ℕ
-numberOf CircuitLength = 20
-numberOf (GateBreaksRules g) = 21
-numberOf (InputMissing g) = 22
-numberOf (InputNoBool g) = 23
-numberOf TapeShort = 24
-numberOf MemoryShort = 25
+abbrev pub refusalNumber : Refusal → ℕ
+refusalNumber CircuitLength = 20
+refusalNumber (GateBreaksRules g) = 21
+refusalNumber (InputMissing g) = 22
+refusalNumber (InputNoBool g) = 23
+refusalNumber TapeShort = 24
+refusalNumber MemoryShort = 25
 
 -- its place: the lowest failing gate, or 0
-abbrev pub placeOf : Refusal → ℕ
-placeOf CircuitLength = 0
-placeOf (GateBreaksRules g) = g
-placeOf (InputMissing g) = g
-placeOf (InputNoBool g) = g
-placeOf TapeShort = 0
-placeOf MemoryShort = 0
+abbrev pub refusalPlace : Refusal → ℕ
+refusalPlace CircuitLength = 0
+refusalPlace (GateBreaksRules g) = g
+refusalPlace (InputMissing g) = g
+refusalPlace (InputNoBool g) = g
+refusalPlace TapeShort = 0
+refusalPlace MemoryShort = 0
 
 -- number, place and counts of an answer; a refusal has zero counts
 abbrev pub answered : Answer → Evaluated
 answered (Accepted w o) = record { number = 0; place = 0; wires = w; outputs = o }
-answered (Refused why) = record { number = numberOf why; place = placeOf why; wires = 0; outputs = 0 }
+answered (Refused why) = record { number = refusalNumber why; place = refusalPlace why; wires = 0; outputs = 0 }
 
 -- what is lent
 abbrev pub lentWith : List ℕ → List ℕ → List ℕ → List ℕ → List ℕ → List ℕ → List ℕ → Lent

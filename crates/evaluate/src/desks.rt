@@ -80,19 +80,20 @@ fn value(
     }
 }
 
-// Wire w, of value v, is shared with tape word w.
-fn deal(sorts: &[u32; 3000], tape: &[u8], shares1: &mut [u8], shares2: &mut [u8], w: usize, v: u32)
-    requires { ⌜ WireIn (now shares1) (now shares2) w × (4 * w + 4 ≤ length (now tape)) ⌝ }
-    ensures { λ _. ⌜ now (shares1 .exit) ≡ putAt (now (shares1 .entry)) w
-        (shareOne (sortFrom (getD (now (sorts .entry)) w 0)) (getD (words (now (tape .entry))) w 0)) ⌝ }
-    ensures { λ _. ⌜ now (shares2 .exit) ≡ putAt (now (shares2 .entry)) w
-        (shareTwo (sortFrom (getD (now (sorts .entry)) w 0)) v (getD (words (now (tape .entry))) w 0)) ⌝ }
-    ensures { λ _. ⌜ (getD (words (now (tape .entry))) w 0 < 2 ^ 32) × (v < 2 ^ 32) ⌝ }
+// A new wire of value v is shared with its tape word. (That words are below 2^32 is told on, for the proofs above.)
+fn deal(sorts: &[u32; 3000], tape: &[u8], shares1: &mut [u8], shares2: &mut [u8], new: Wire, v: u32)
+    requires { ⌜ WireIn (now shares1) (now shares2) (new .0) × (4 * new .0 + 4 ≤ length (now tape)) ⌝ }
+    ensures { λ _. ⌜ now (shares1 .exit) ≡ putAt (now (shares1 .entry)) (new .0)
+        (shareOne (sortFrom (getD (now (sorts .entry)) (new .0) 0)) (getD (words (now (tape .entry))) (new .0) 0)) ⌝ }
+    ensures { λ _. ⌜ now (shares2 .exit) ≡ putAt (now (shares2 .entry)) (new .0)
+        (shareTwo (sortFrom (getD (now (sorts .entry)) (new .0) 0)) v (getD (words (now (tape .entry))) (new .0) 0)) ⌝ }
+    ensures { λ _. ⌜ (getD (words (now (tape .entry))) (new .0) 0 < 2 ^ 32) × (v < 2 ^ 32) ⌝ }
 {
-    let sort = Sort(sorts[w]);
-    let t = words::get(tape, w);
-    words::put(shares1, w, share::share_one(sort, t));
-    words::put(shares2, w, share::share_two(sort, v, t));
+    let k = new.0 as usize;
+    let sort = Sort(sorts[k]);
+    let t = words::get(tape, k);
+    words::put(shares1, k, share::share_one(sort, t));
+    words::put(shares2, k, share::share_two(sort, v, t));
 }
 
 // How many wires and outputs there are so far.
@@ -124,7 +125,7 @@ fn turn(
     let gate = gate_at(circuit, i);
     let v = value(gate, inputs1, inputs2, sorts, shares1, shares2);
     if gate.makes_wire() {
-        deal(sorts, tape, shares1, shares2, w, v);
+        deal(sorts, tape, shares1, shares2, Wire(w as u32), v);
         Counts {
             wires: w + 1,
             outs: m,

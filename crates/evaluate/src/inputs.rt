@@ -38,7 +38,7 @@ pub fn input(inputs1: &[u8], inputs2: &[u8], desk: u32, number: u32) -> u32
 }
 
 // A desk's input is there.
-fn is_there(inputs1: &[u8], inputs2: &[u8], desk: u32, number: u32) -> bool
+fn is_present(inputs1: &[u8], inputs2: &[u8], desk: u32, number: u32) -> bool
     ensures { λ r. ⌜ r ≡ ltb number (length (ofDesk (words (now (inputs1 .entry))) (words (now (inputs2 .entry))) desk)) ⌝ }
 {
     let k = number as usize;
@@ -49,10 +49,10 @@ fn is_there(inputs1: &[u8], inputs2: &[u8], desk: u32, number: u32) -> bool
     }
 }
 
-// Check 22, that an input read is there, and check 23, that a bool is 0 or 1.
+// Check 22, that an input read is there, and check 23, that it fits the sort it is read at: a bool is 0 or 1.
 pub enum InputCheck {
-    There,
-    Fit,
+    Present,
+    FitsSort,
 }
 
 fn input_passes(
@@ -66,8 +66,8 @@ fn input_passes(
     ensures { λ r. ⌜ r ≡ inputTest check (words (now (inputs1 .entry))) (words (now (inputs2 .entry))) desk number (meantSort sort) ⌝ }
 {
     match check {
-        InputCheck::There => is_there(inputs1, inputs2, desk, number),
-        InputCheck::Fit => sort.holds(input(inputs1, inputs2, desk, number)),
+        InputCheck::Present => is_present(inputs1, inputs2, desk, number),
+        InputCheck::FitsSort => sort.holds(input(inputs1, inputs2, desk, number)),
     }
 }
 

@@ -12,9 +12,8 @@ ghost use mathlib.Core.Path.{_≡_};
 ghost use mathlib.Core.List.{[]};
 ghost use lib.Dec.{T};
 ghost use Rattle.words.specs.Words.{words};
-ghost use Rattle.rules.specs.Gates.{circuitFits};
-ghost use Rattle.rules.specs.Answers.{gatesOf, failing21};
-ghost use Rattle.circuit.specs.Noted.{WiresNoted};
+ghost use Rattle.rules.specs.Answers.{FitInputs};
+ghost use Rattle.evaluate.specs.Held.{GatesPass};
 ghost use Rattle.evaluate.specs.Promise.{answered, lentWith, Promise};
 
 // Why an evaluation is refused, with the lowest failing gate where one fails.
@@ -32,8 +31,8 @@ pub enum Answer {
     Refused { why: Refusal },
 }
 
-// Checks 22 to 25, and the run, of a circuit that passes 20 and 21 and makes so many wires of these sorts.
-fn with_gates(
+// Checks 24 and 25, and the run, once the gates and the inputs pass.
+fn after_inputs(
     circuit: &[u8],
     inputs1: &[u8],
     inputs2: &[u8],
@@ -44,35 +43,20 @@ fn with_gates(
     shares2: &mut [u8],
     outputs: &mut [u8],
 ) -> Answer
-    requires { ⌜ T (circuitFits (now circuit)) × ((failing21 (words (now circuit)) ≡ []) × WiresNoted (gatesOf (now circuit)) (now sorts) wires) ⌝ }
+    requires { ⌜ GatesPass (now circuit) (now sorts) wires × FitInputs (now circuit) (now inputs1) (now inputs2) ⌝ }
     ensures { λ r. ⌜ Promise
         (lentWith (now (circuit .entry)) (now (inputs1 .entry)) (now (inputs2 .entry)) (now (tape .entry))
         (now (shares1 .entry)) (now (shares2 .entry)) (now (outputs .entry)))
         (answered r) (now (shares1 .exit)) (now (shares2 .exit)) (now (outputs .exit)) ⌝ }
 {
-    let n = circuit.len() / 20;
-    let missing = lowest_failing(InputCheck::There, circuit, inputs1, inputs2);
-    if missing < n {
-        return Answer::Refused {
-            why: Refusal::InputMissing {
-                gate: missing as u32,
-            },
-        };
-    }
-    let wrong = lowest_failing(InputCheck::Fit, circuit, inputs1, inputs2);
-    if wrong < n {
-        return Answer::Refused {
-            why: Refusal::InputNoBool { gate: wrong as u32 },
-        };
-    }
     if tape.len() / 4 < wires {
         return Answer::Refused {
             why: Refusal::TapeShort,
         };
     }
-    if (wires <= shares1.len() / 4)
-        & ((wires <= shares2.len() / 4) & (n - wires <= outputs.len() / 4))
-    {
+    // Each gate makes a wire or is an out.
+    let outs = circuit.len() / 20 - wires;
+    if (wires <= shares1.len() / 4) & ((wires <= shares2.len() / 4) & (outs <= outputs.len() / 4)) {
         run(
             circuit,
             inputs1,
@@ -85,13 +69,59 @@ fn with_gates(
         );
         Answer::Accepted {
             wires: wires as u32,
-            outputs: (n - wires) as u32,
+            outputs: outs as u32,
         }
     } else {
         Answer::Refused {
             why: Refusal::MemoryShort,
         }
     }
+}
+
+// Checks 22 and 23, and what follows, once the gates pass.
+fn after_gates(
+    circuit: &[u8],
+    inputs1: &[u8],
+    inputs2: &[u8],
+    tape: &[u8],
+    sorts: &[u32; 3000],
+    wires: usize,
+    shares1: &mut [u8],
+    shares2: &mut [u8],
+    outputs: &mut [u8],
+) -> Answer
+    requires { ⌜ GatesPass (now circuit) (now sorts) wires ⌝ }
+    ensures { λ r. ⌜ Promise
+        (lentWith (now (circuit .entry)) (now (inputs1 .entry)) (now (inputs2 .entry)) (now (tape .entry))
+        (now (shares1 .entry)) (now (shares2 .entry)) (now (outputs .entry)))
+        (answered r) (now (shares1 .exit)) (now (shares2 .exit)) (now (outputs .exit)) ⌝ }
+{
+    let n = circuit.len() / 20;
+    let missing = lowest_failing(InputCheck::Present, circuit, inputs1, inputs2);
+    if missing < n {
+        return Answer::Refused {
+            why: Refusal::InputMissing {
+                gate: missing as u32,
+            },
+        };
+    }
+    let wrong = lowest_failing(InputCheck::FitsSort, circuit, inputs1, inputs2);
+    if wrong < n {
+        return Answer::Refused {
+            why: Refusal::InputNoBool { gate: wrong as u32 },
+        };
+    }
+    after_inputs(
+        circuit,
+        inputs1,
+        inputs2,
+        tape,
+        sorts,
+        wires,
+        shares1,
+        shares2,
+        outputs,
+    )
 }
 
 // The operation: any bytes get an answer, and a refusal writes nothing.
@@ -120,7 +150,7 @@ pub fn evaluate(
         Checked::Broken { gate } => Answer::Refused {
             why: Refusal::GateBreaksRules { gate: gate },
         },
-        Checked::Kept { wires } => with_gates(
+        Checked::Kept { wires } => after_gates(
             circuit,
             inputs1,
             inputs2,

@@ -7,7 +7,7 @@ use mathlib.Core.Bool.{Bool, true, false}
 use mathlib.Core.List.{List, [], _∷_, _++_, append-nil}
 use lib.Dec.{eqb}
 use borrow.Author.Tests.{eqb-true, eqb-false}
-use lib.ListN.{length, getD, set, take, drop, length-set, length-append, length-drop}
+use lib.ListN.{length, getD, set, take, drop, length-set, length-append, length-drop, List·getD-append}
 use lib.Seq.{getD-set-same, getD-set-other, ext-getD, take-at}
 use Rattle.words.specs.Words.{joined, putAt, words, bytesOf, over, AllWords, AllBytes}
 
@@ -209,3 +209,19 @@ bytes-read-back (a ∷ b ∷ c ∷ []) h whole = absurd (omega arith)
 bytes-read-back (a ∷ b ∷ c ∷ d ∷ rest) h whole =
     let (p, q, r, s) = split-of a b c d (h .0) (h .1 .0) (h .1 .1 .0) (h .1 .1 .1 .0) in
     rw (p, q, r, s, bytes-read-back rest (h .1 .1 .1 .1) (omega arith))
+
+-- of the words over a memory each stands at its place
+pub over-at : (ws b : List ℕ) → AllWords ws → (k : ℕ) → k < length ws → getD (words (over ws b)) k 0 ≡ getD ws k 0
+unfolding over
+over-at ws b is k below =
+    rw (words-over ws (drop (4 * length ws) b) is) (List·getD-append ws (words (drop (4 * length ws) b)) 0 k below)
+
+-- and they are the memory's first words
+pub over-taken : (ws b : List ℕ) → AllWords ws → take (length ws) (words (over ws b)) ≡ ws
+unfolding over
+over-taken ws b is = rw (words-over ws (drop (4 * length ws) b) is) (take-at ws (words (drop (4 * length ws) b)) (length ws) refl)
+
+-- a list with a word at every place is words
+pub words-by-place : (ws : List ℕ) → ((k : ℕ) → getD ws k 0 < 2 ^ 32) → AllWords ws
+words-by-place [] at = tt
+words-by-place (w ∷ ws) at = (at 0, words-by-place ws (λ k. at (suc k)))

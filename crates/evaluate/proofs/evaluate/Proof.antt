@@ -1,4 +1,4 @@
--- `evaluate` meets its contract: 20 and 21 are answered here, and the rest by `with_gates`.
+-- `evaluate` meets its contract: 20 and 21 are answered here, and the rest by `after_gates`.
 use Rattle.rules.specs.Answers.{Lent}
 use mathlib.Core.Path.{refl, sym, _∙_}
 use borrow.Author.Tests.{not-true, not-false}
@@ -34,8 +34,8 @@ enum-known-checked c = search needs
 enum-known-checked-2 : tie.Need-enum-known-checked-2
 enum-known-checked-2 c = search needs
 
-with-gates-requires : tie.Need-with-gates-requires
-with-gates-requires c κs =
+after-gates-requires : tie.Need-after-gates-requires
+after-gates-requires c κs =
     let at-checked2 = c .before .before .before .before .before in
     let at-check-gates = at-checked2 .before .before in
     let at-if1 = at-check-gates .before .before in
@@ -72,7 +72,7 @@ evaluate-spec =
     check-gates-requires
     enum-known-checked
     enum-known-checked-2
-    with-gates-requires
+    after-gates-requires
     returns-2
     same-length
     same-length-2

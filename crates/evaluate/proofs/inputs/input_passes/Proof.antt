@@ -6,8 +6,8 @@ use Rattle.evaluate.proofs.inputs.input_passes.Tie as tie
 enum-told : tie.Need-enum-told
 enum-told c = search needs
 
-is-there-requires : tie.Need-is-there-requires
-is-there-requires c κs = search needs
+is-present-requires : tie.Need-is-present-requires
+is-present-requires c κs = search needs
 
 enum-told-2 : tie.Need-enum-told-2
 enum-told-2 c = search needs
@@ -19,7 +19,7 @@ holds-requires : tie.Need-holds-requires
 holds-requires c κs = search needs
 
 returns : tie.Need-returns
-returns c = rw (c .before .enum-told .given .1) (c .is-there .ensures)
+returns c = rw (c .before .enum-told .given .1) (c .is-present .ensures)
 
 returns-2 : tie.Need-returns-2
 returns-2 c = rw (c .before .before .enum-told2 .given .1, ← c .before .input .ensures) (c .holds .ensures)
@@ -29,7 +29,7 @@ input-passes-spec =
     tie.close
     (tie.spec
     enum-told
-    is-there-requires
+    is-present-requires
     enum-told-2
     input-requires
     holds-requires
