@@ -34,18 +34,22 @@ number-none (suc (suc zero)) e = cc
 number-none (suc (suc (suc zero))) e = cc
 number-none (suc (suc (suc (suc n)))) e = refl
 
+-- what holds of sort 1 where a number is 1, of sort 3 where it is 3, and of sort 2 where it is neither, holds of its sort
+pub by-number : (P : Sort → Type 0) (n : ℕ) → (n ≡ 1 → P arithmetic) → (n ≡ 3 → P bit) → ((n ≡ 1 → ⊥) → (n ≡ 3 → ⊥) → P boolean) → P (sortFrom n)
+unfolding sortFrom
+by-number P zero one three other = other (λ e. omega arith) (λ e. omega arith)
+by-number P (suc zero) one three other = one refl
+by-number P (suc (suc zero)) one three other = other (λ e. omega arith) (λ e. omega arith)
+by-number P (suc (suc (suc zero))) one three other = three refl
+by-number P (suc (suc (suc (suc n)))) one three other = other (λ e. omega arith) (λ e. omega arith)
+
 -- a bool is 0 or 1; on a wire of another sort any word may stand
 pub holds-bit : (n v : ℕ) → n ≡ 3 → leb v 1 ≡ fitsSort (sortFrom n) v
 unfolding sortFrom
 holds-bit n v e = rw e
 
 pub holds-any : (n v : ℕ) → (n ≡ 3 → ⊥) → true ≡ fitsSort (sortFrom n) v
-unfolding sortFrom
-holds-any zero v h = refl
-holds-any (suc zero) v h = refl
-holds-any (suc (suc zero)) v h = refl
-holds-any (suc (suc (suc zero))) v h = absurd (h refl)
-holds-any (suc (suc (suc (suc n)))) v h = refl
+holds-any n v h = by-number (λ m. true ≡ fitsSort m v) n (λ e. refl) (λ e. absurd (h e)) (λ p q. refl)
 
 -- a number of a sort is that sort's number
 pub number-of-sort : (n : ℕ) {m : Sort} → sortNumbered n ≡ some m → n ≡ sortNumber m

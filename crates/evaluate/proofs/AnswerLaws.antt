@@ -2,12 +2,12 @@
 use Prim.Native.Nat.{ℕ, _+_, _-_, _/_, _≤_, _<_}
 use mathlib.Core.Path.{_≡_, refl, sym, ap, _∙_}
 use mathlib.Core.Logic.{inl}
-use mathlib.Core.Bool.{Bool, true, false, _&&_, false≢true}
+use mathlib.Core.Bool.{Bool, true, false, _&&_}
 use mathlib.Core.List.{List, [], reverse}
 use lib.Dec.{T, leb}
 use lib.ListN.{length, take, length-reverse}
 use native.Mathlib.Omega.{arith}
-use borrow.Author.Tests.{lt-leb, le-leb, leb-true}
+use borrow.Author.Tests.{lt-leb, le-leb}
 use Rattle.words.specs.Words.{words}
 use Rattle.words.proofs.Words.{words-length}
 use Rattle.rules.specs.Places.{refused, accepted, fault}
@@ -19,16 +19,12 @@ use Rattle.rules.specs.Answers.{gatesOf, outCount, FitInputs, failing20, failin
 use Rattle.rules.specs.Refusals.{Lowest, Clear, evaluateChecks, Evaluates}
 use Rattle.rules.proofs.Places.{none-fault}
 use Rattle.rules.proofs.Refusals.{evaluates}
+use Rattle.rules.proofs.Memories.{passed-25}
 use Rattle.rules.proofs.Circuits.{wires-and-outs, outs-of-shares}
 use Rattle.rules.proofs.Earlier.{gates-all}
 use Rattle.circuit.proofs.PassLaws.{gates-in, gates-at-most}
 use Rattle.evaluate.specs.Promise.{Promise}
 use Rattle.evaluate.specs.Held.{memories, GatesPass, Ready, Done}
-
--- two tests that are true together are true each
-both-true : (a b : Bool) → (a && b) ≡ true → (a ≡ true) × (b ≡ true)
-both-true true b e = (refl, e)
-both-true false b e = absurd (false≢true e)
 
 -- a refusal by a line of the table answers its number and place, and leaves every memory as it was
 abbrev pub Refuses : Lent → ℕ → ℕ → Type 0
@@ -138,19 +134,15 @@ module _ (l : Lent) (sorts : List ℕ) (w : ℕ) (pass : GatesPass (l .circuit) 
       -- with memory enough the run may begin,
       pub ready-to-run : enough ≡ true → Ready (l .circuit) (l .tape) sorts (memories (l .shares1) (l .shares2) (l .outputs))
       ready-to-run e =
-          let (one, rest) = both-true (leb w (length (l .shares1) / 4)) _ e in
-          let (two, outs) = both-true (leb w (length (l .shares2) / 4)) _ rest in
-          let one-enough : w ≤ length (l .shares1) / 4 = leb-true _ _ one in
-          let two-enough : w ≤ length (l .shares2) / 4 = leb-true _ _ two in
-          let outs-enough : length (l .circuit) / 20 - w ≤ length (l .outputs) / 4 = leb-true _ _ outs in
+          let (one, two, outs) = passed-25 (gs l) (l .shares1) (l .shares2) (l .outputs) (pass-25 l (sym enough-is ∙ e)) in
           record {
             keeps = pass .1 .0;
             few = omega (arith, gates-in (l .circuit), few-gates);
             sorts-are = pass .1 .1 .sorts-are;
             tape-long = omega (arith, pass .1 .1 .count);
-            one-long = omega (arith, pass .1 .1 .count);
-            two-long = omega (arith, pass .1 .1 .count);
-            outs-long = omega (arith, wires-or-outs);
+            one-long = omega (arith, words-length (l .shares1));
+            two-long = omega (arith, words-length (l .shares2));
+            outs-long = omega (arith, words-length (l .outputs));
           }
 
       -- and its end is the promise

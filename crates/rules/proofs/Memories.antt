@@ -225,7 +225,7 @@ unfolding failing11
 compile-fits t circuit (Compiles.all-hold {s = s} b c) = one-fits (length (circuitWords (s .gates))) (length (words circuit)) (c .0)
 
 -- what passes check 25 has a word for each share and each output
-passed-25 : (gs : List Gate) (shares1 shares2 outputs : List ℕ) → failing25 gs shares1 shares2 outputs ≡ []
+pub passed-25 : (gs : List Gate) (shares1 shares2 outputs : List ℕ) → failing25 gs shares1 shares2 outputs ≡ []
     → (wires gs .count ≤ length (words shares1)) × (wires gs .count ≤ length (words shares2)) × (outCount gs ≤ length (words outputs))
 unfolding failing25
 passed-25 gs shares1 shares2 outputs =

@@ -6,13 +6,12 @@ use Rattle.evaluate.proofs.AnswerLaws.{few-gates, promise-22, promise-2
 use borrow.Author.Needs.{needs}
 use Rattle.evaluate.proofs.after_gates.Statement.{statement}
 use Rattle.evaluate.proofs.after_gates.Tie as tie
-use Rattle.evaluate.proofs.after_gates.Reads as reads
-use Rattle.evaluate.proofs.after_gates.Lts as lts
-use Rattle.evaluate.proofs.after_inputs.Reads as after-inputs-reads
-use Rattle.evaluate.proofs.inputs.lowest_failing.Reads as lowest-failing-reads
 
--- src/lib.rt:100:9
--- what is lent to the call
+-- the start of the call, from the place where the bytes of all its memories are known
+abbrev entry : tie.After-slice-known3 → tie.Start
+entry d = d .before .before .before .before .before .before .before
+
+-- what is lent to it
 abbrev lentTo : tie.Start → Lent
 lentTo s =
     lentWith (s .args .circuit .now) (s .args .inputs1 .now) (s .args .inputs2 .now) (s .args .tape .now)
@@ -20,67 +19,62 @@ lentTo s =
 
 lowest-failing-requires : tie.Need-lowest-failing-requires
 lowest-failing-requires c κs =
-    let start = c .before .before .before .before .before .before .before in
+    let start = entry c in
     start .pre .1 .0
 
--- src/lib.rt:104:23
 cast-t16 : tie.Need-cast-t16
 cast-t16 c =
-    let start = c .before .before .before .before .before .before .before .before .before in
+    let start = entry (c .before .before) in
     omega (arith, few-gates (lentTo start) (start .args .sorts .now) (start .args .wires) (start .pre), c .if1 .taken)
 
--- src/lib.rt:102:9
 returns : tie.Need-returns
 returns c =
-    let start = c .before .before .before .before .before .before .before .before .before in
+    let start = entry (c .before .before) in
     promise-22 (lentTo start) (start .args .sorts .now) (start .args .wires) (start .pre)
     (c .before .lowest-failing .ensures .at-lowest (c .if1 .taken))
 
--- src/lib.rt:108:9
 lowest-failing-requires-2 : tie.Need-lowest-failing-requires-2
 lowest-failing-requires-2 c κs =
-    let start = c .before .before .before .before .before .before .before .before .before in
+    let start = entry (c .before .before) in
     start .pre .1 .0
 
--- src/lib.rt:111:47
 cast-t18 : tie.Need-cast-t18
 cast-t18 c =
-    let start = c .before .before .before .before .before .before .before .before .before .before .before in
+    let start = entry (c .before .before .before .before) in
     omega (arith, few-gates (lentTo start) (start .args .sorts .now) (start .args .wires) (start .pre), c .if2 .taken)
 
--- src/lib.rt:110:9
 returns-2 : tie.Need-returns-2
 returns-2 c =
     let at-if1 = c .before .before in
     let at-lowest-failing = at-if1 .before in
-    let start = at-lowest-failing .before .before .before .before .before .before .before .before in
+    let start = entry (at-lowest-failing .before) in
     promise-23 (lentTo start) (start .args .sorts .now) (start .args .wires) (start .pre)
     (at-lowest-failing .lowest-failing .ensures .nowhere (at-if1 .if1 .left))
     (c .before .lowest-failing2 .ensures .at-lowest (c .if2 .taken))
 
--- src/lib.rt:114:5
 after-inputs-requires : tie.Need-after-inputs-requires
 after-inputs-requires c κs =
     let at-if2 = c .before .before .before in
     let at-lowest-failing2 = at-if2 .before in
     let at-if1 = at-lowest-failing2 .before in
     let at-lowest-failing = at-if1 .before in
-    let start = at-lowest-failing .before .before .before .before .before .before .before .before in
-    (start .pre, record { no-22 = (at-lowest-failing .lowest-failing .ensures .nowhere (at-if1 .if1 .left)); no-23 = (at-lowest-failing2 .lowest-failing2 .ensures .nowhere (at-if2 .if2 .left)) })
+    let start = entry (at-lowest-failing .before) in (
+      start .pre,
+      record {
+        no-22 = at-lowest-failing .lowest-failing .ensures .nowhere (at-if1 .if1 .left);
+        no-23 = at-lowest-failing2 .lowest-failing2 .ensures .nowhere (at-if2 .if2 .left);
+      },
+    )
 
--- src/lib.rt:82:1
 same-length : tie.Need-same-length
 same-length c = search needs
 
--- src/lib.rt:82:1
 same-length-2 : tie.Need-same-length-2
 same-length-2 c = search needs
 
--- src/lib.rt:82:1
 same-length-3 : tie.Need-same-length-3
 same-length-3 c = search needs
 
--- src/lib.rt:82:1
 returns-3 : tie.Need-returns-3
 returns-3 c = search needs
 

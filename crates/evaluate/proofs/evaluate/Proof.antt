@@ -9,7 +9,11 @@ use borrow.Author.Needs.{needs}
 use Rattle.evaluate.proofs.evaluate.Statement.{statement}
 use Rattle.evaluate.proofs.evaluate.Tie as tie
 
--- what is lent to the call
+-- the start of the call, from the place where the bytes of all its memories are known
+abbrev entry : tie.After-slice-known3 → tie.Start
+entry d = d .before .before .before .before .before .before .before
+
+-- what is lent to it
 abbrev lentTo : tie.Start → Lent
 lentTo s =
     lentWith (s .args .circuit .now) (s .args .inputs1 .now) (s .args .inputs2 .now) (s .args .tape .now)
@@ -20,7 +24,7 @@ fits-requires c κs = search needs
 
 returns : tie.Need-returns
 returns c =
-    let start = c .before .before .before .before .before .before .before .before .before in
+    let start = entry (c .before .before) in
     promise-20 (lentTo start) (sym (c .before .fits2 .ensures) ∙ not-true _ (c .if1 .taken))
 
 check-gates-requires : tie.Need-check-gates-requires
@@ -39,15 +43,17 @@ after-gates-requires c κs =
     let at-checked2 = c .before .before .before .before .before in
     let at-check-gates = at-checked2 .before .before in
     let at-if1 = at-check-gates .before .before in
-    let at-fits2 = at-if1 .before in
-    ((of-true _ (sym (at-fits2 .fits2 .ensures) ∙ not-false _ (at-if1 .if1 .left))), rw (at-checked2 .checked2 .given .1) at (at-check-gates .check-gates .ensures))
+    let at-fits2 = at-if1 .before in (
+      (of-true _ (sym (at-fits2 .fits2 .ensures) ∙ not-false _ (at-if1 .if1 .left))),
+      rw (at-checked2 .checked2 .given .1) at (at-check-gates .check-gates .ensures),
+    )
 
 returns-2 : tie.Need-returns-2
 returns-2 c =
     let at-check-gates = c .before .before .before in
     let at-if1 = at-check-gates .before .before in
     let at-fits2 = at-if1 .before in
-    let start = at-fits2 .before .before .before .before .before .before .before .before in
+    let start = entry (at-fits2 .before) in
     promise-21 (lentTo start) (of-true _ (sym (at-fits2 .fits2 .ensures) ∙ not-false _ (at-if1 .if1 .left)))
     (rw (c .before .checked .given .1) at (at-check-gates .check-gates .ensures))
 

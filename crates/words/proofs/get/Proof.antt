@@ -1,49 +1,37 @@
+-- `get` meets its contract.
 use mathlib.Core.Path.{_∙_, sym}
 use Rattle.words.proofs.Words.{words-at}
 use borrow.Author.Needs.{needs}
 use Rattle.words.proofs.get.Statement.{statement}
 use Rattle.words.proofs.get.Tie as tie
-use Rattle.words.proofs.get.Reads as reads
-use Rattle.words.proofs.get.Lts as lts
-use Rattle.words.proofs.four.Reads as four-reads
 
--- src/lib.rt:26:13
 mul-p : tie.Need-mul-p
 mul-p c = search needs
 
--- src/lib.rt:27:10
 shared-slice-read-four : tie.Need-shared-slice-read-four
 shared-slice-read-four c = search needs
 
--- src/lib.rt:27:18
 add-four : tie.Need-add-four
 add-four c = search needs
 
--- src/lib.rt:27:16
 shared-slice-read-four-2 : tie.Need-shared-slice-read-four-2
 shared-slice-read-four-2 c = search needs
 
--- src/lib.rt:27:28
 add-four-2 : tie.Need-add-four-2
 add-four-2 c = search needs
 
--- src/lib.rt:27:26
 shared-slice-read-four-3 : tie.Need-shared-slice-read-four-3
 shared-slice-read-four-3 c = search needs
 
--- src/lib.rt:27:38
 add-four-3 : tie.Need-add-four-3
 add-four-3 c = search needs
 
--- src/lib.rt:27:36
 shared-slice-read-four-4 : tie.Need-shared-slice-read-four-4
 shared-slice-read-four-4 c = search needs
 
--- src/lib.rt:27:5
 four-requires : tie.Need-four-requires
 four-requires c κs = search needs
 
--- src/lib.rt:22:1
 returns : tie.Need-returns
 returns c =
     let start = c .before .before .before .before .before .before in

@@ -3,54 +3,37 @@ use native.Mathlib.Omega.{arith}
 use borrow.Author.Needs.{needs}
 use Rattle.evaluate.proofs.desks.deal.Statement.{statement}
 use Rattle.evaluate.proofs.desks.deal.Tie as tie
-use Rattle.evaluate.proofs.desks.deal.Reads as reads
-use Rattle.evaluate.proofs.desks.deal.Lts as lts
-use Rattle.share.proofs.share_one.Reads as share-one-reads
-use Rattle.share.proofs.share_two.Reads as share-two-reads
-use Rattle.words.proofs.get.Reads as get-reads
-use Rattle.words.proofs.put.Reads as put-reads
 
--- src/desks.rt:92:13
 cast-k : tie.Need-cast-k
 cast-k c = search needs
 
--- src/desks.rt:93:21
 mul-put : tie.Need-mul-put
 mul-put c = search needs
 
--- src/desks.rt:93:21
 element-copy-out-put : tie.Need-element-copy-out-put
 element-copy-out-put c = search needs
 
--- src/desks.rt:94:9
 get-requires : tie.Need-get-requires
 get-requires c κs = search needs
 
--- src/desks.rt:95:28
 share-one-requires : tie.Need-share-one-requires
 share-one-requires c κs = search needs
 
--- src/desks.rt:95:5
 put-requires : tie.Need-put-requires
 put-requires c κs = search needs
 
--- src/desks.rt:96:28
 share-two-requires : tie.Need-share-two-requires
 share-two-requires c κs = search needs
 
--- src/desks.rt:96:5
 put-requires-2 : tie.Need-put-requires-2
 put-requires-2 c κs = search needs
 
--- src/desks.rt:84:1
 same-length : tie.Need-same-length
 same-length c = search needs
 
--- src/desks.rt:84:1
 same-length-2 : tie.Need-same-length-2
 same-length-2 c = search needs
 
--- src/desks.rt:84:1
 returns : tie.Need-returns
 returns c =
     let at-put2 = c .before .before in

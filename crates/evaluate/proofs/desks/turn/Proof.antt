@@ -6,32 +6,21 @@ use Rattle.evaluate.proofs.TurnLaws.{gate-wires-in, new-wire-in, new-ou
 use borrow.Author.Needs.{needs}
 use Rattle.evaluate.proofs.desks.turn.Statement.{statement}
 use Rattle.evaluate.proofs.desks.turn.Tie as tie
-use Rattle.evaluate.proofs.desks.turn.Reads as reads
-use Rattle.evaluate.proofs.desks.turn.Lts as lts
-use Rattle.circuit.proofs.gates.Gate.makes_wire.Reads as makes-wire-reads
-use Rattle.circuit.proofs.gates.gate_at.Reads as gate-at-reads
-use Rattle.evaluate.proofs.desks.deal.Reads as deal-reads
-use Rattle.evaluate.proofs.desks.value.Reads as value-reads
-use Rattle.words.proofs.put.Reads as put-reads
 
--- src/desks.rt:125:9
 gate-at-requires : tie.Need-gate-at-requires
 gate-at-requires c κs =
     let start = c .before .before .before .before .before .before .before in
     omega (arith, start .pre .within, gates-in (start .args .circuit .now))
 
--- src/desks.rt:126:9
 value-requires : tie.Need-value-requires
 value-requires c κs =
     let at-gate-at = c .before .before in
     let start = at-gate-at .before .before .before .before .before .before .before .before in
     gate-wires-in (start .pre) (at-gate-at .gate-at .result) (at-gate-at .gate-at .ensures)
 
--- src/desks.rt:127:8
 makes-wire-requires : tie.Need-makes-wire-requires
 makes-wire-requires c κs = search needs
 
--- src/desks.rt:128:50
 cast-t26 : tie.Need-cast-t26
 cast-t26 c =
     let at-if1 = c .before .before in
@@ -40,7 +29,6 @@ cast-t26 c =
     let start = at-gate-at .before .before .before .before .before .before .before .before in
     omega (arith, new-wire-in (start .pre) (at-gate-at .gate-at .result) (at-gate-at .gate-at .ensures) (sym (at-makes-wire .makes-wire .ensures) ∙ at-if1 .if1 .taken) .0 .0)
 
--- src/desks.rt:128:9
 deal-requires : tie.Need-deal-requires
 deal-requires c κs =
     let at-if1 = c .before .before in
@@ -50,7 +38,6 @@ deal-requires c κs =
     new-wire-in (start .pre) (at-gate-at .gate-at .result) (at-gate-at .gate-at .ensures)
     (sym (at-makes-wire .makes-wire .ensures) ∙ at-if1 .if1 .taken)
 
--- src/desks.rt:130:20
 add-t28 : tie.Need-add-t28
 add-t28 c =
     let at-if1 = c .before .before .before .before .before .before .before in
@@ -59,7 +46,6 @@ add-t28 c =
     let start = at-gate-at .before .before .before .before .before .before .before .before in
     omega (arith, new-wire-in (start .pre) (at-gate-at .gate-at .result) (at-gate-at .gate-at .ensures) (sym (at-makes-wire .makes-wire .ensures) ∙ at-if1 .if1 .taken) .0 .0)
 
--- src/desks.rt:134:9
 put-requires : tie.Need-put-requires
 put-requires c κs =
     let at-makes-wire = c .before .before in
@@ -68,7 +54,6 @@ put-requires c κs =
     new-output-in (start .pre) (at-gate-at .gate-at .result) (at-gate-at .gate-at .ensures)
     (sym (at-makes-wire .makes-wire .ensures) ∙ c .before .if1 .left)
 
--- src/desks.rt:137:19
 add-t32 : tie.Need-add-t32
 add-t32 c =
     let at-if1 = c .before .before .before .before in
@@ -77,15 +62,12 @@ add-t32 c =
     let start = at-gate-at .before .before .before .before .before .before .before .before in
     omega (arith, new-output-in (start .pre) (at-gate-at .gate-at .result) (at-gate-at .gate-at .ensures) (sym (at-makes-wire .makes-wire .ensures) ∙ at-if1 .if1 .left), start)
 
--- src/desks.rt:106:1
 same-length : tie.Need-same-length
 same-length c = search needs
 
--- src/desks.rt:106:1
 same-length-2 : tie.Need-same-length-2
 same-length-2 c = search needs
 
--- src/desks.rt:106:1
 returns : tie.Need-returns
 returns c =
     let at-deal = c .before .before .before .before in
@@ -98,19 +80,15 @@ returns c =
     turned-wire (start .pre) (at-gate-at .gate-at .result) (at-gate-at .gate-at .ensures) (sym (at-makes-wire .makes-wire .ensures) ∙ at-if1 .if1 .taken)
     (at-value .value .result) word tape-word (at-value .value .ensures) one two
 
--- src/desks.rt:106:1
 same-length-3 : tie.Need-same-length-3
 same-length-3 c = search needs
 
--- src/desks.rt:106:1
 same-length-4 : tie.Need-same-length-4
 same-length-4 c = search needs
 
--- src/desks.rt:106:1
 same-length-5 : tie.Need-same-length-5
 same-length-5 c = search needs
 
--- src/desks.rt:106:1
 returns-2 : tie.Need-returns-2
 returns-2 c =
     let at-put = c .before .before in
