@@ -25,7 +25,7 @@ use Rattle.rules.specs.Plain.{inputs, valueOf, noted, plain}
 use Rattle.rules.specs.Direct.{direct, keep, blank, follow, begin}
 use Rattle.rules.specs.Shares.{Tape, taken, tapeFor, dealt, shared, listed, sharesOne, sharesTwo, partner}
 use Rattle.rules.specs.Answers.{programOf, rowsOf, sitesOf, secretIn, runOf, failing1, failing2, failing3, failing4, failing5, failing6, failing7, failing8}
-use Rattle.rules.specs.Answers.{failing9, failing10, failing11, built, compile, compileAnswer, compileLeaves}
+use Rattle.rules.specs.Answers.{failing9, failing10, failing11, checked, built, compile, compileAnswer, compileLeaves}
 use Rattle.rules.specs.Answers.{gatesOf, outCount, failing20, failing21, failing22, failing23, failing24, failing25, evaluate}
 use Rattle.rules.specs.Answers.{evaluateAnswer, leavesOne, leavesTwo, leavesOuts, readOuts, failingDirect, readDirectly, directAnswer, directLeaves}
 use Rattle.rules.specs.Ascii.{ascii, lines}
@@ -67,7 +67,7 @@ unfolding
     cell put stepped make converted bringVal bring sided kept muxedTo muxed guarded runE
     first firsts storeOver store putWire putVal entered turns run start
     circuitWords
-    runOf failing9 failing10 failing11 built compile compileAnswer compileLeaves
+    runOf failing9 failing10 failing11 checked built compile compileAnswer compileLeaves
 compiling = tt
 
 -- and for all operations on tables and circuits
@@ -196,7 +196,7 @@ million-steps = ap (λ s. s .steps) million-run ∙ outer-steps
 -- a table is accepted, with its run, where no check finds a failing place
 built-run : (t : List ℕ) → failing1 t ≡ [] → failing2 t ≡ [] → failing3 t ≡ [] → failing4 t ≡ [] → failing5 t ≡ []
     → failing6 t ≡ [] → failing7 t ≡ [] → failing8 t ≡ [] → failing9 t ≡ [] → failing10 t ≡ [] → built t ≡ accepted (runOf t)
-unfolding built unless
+unfolding checked built unless andThen
 built-run t h1 h2 h3 h4 h5 h6 h7 h8 h9 h10 = rw (h1, h2, h3, h4, h5, h6, h7, h8, h9, h10)
 
 -- of the million's checks 1 to 8 compute, and 9 and 10 compare with its counts

@@ -1,8 +1,8 @@
 -- Ladders of checks, one after another: which rung refuses, and what holds in every case.
 use Prim.Native.Nat.{ℕ, zero, suc}
-use mathlib.Core.Path.{_≡_, refl, _∙_}
+use mathlib.Core.Path.{_≡_, refl, ap, _∙_}
 use mathlib.Core.List.{List, [], _∷_, _++_}
-use Rattle.rules.specs.Places.{Verdict, refused, lowest, unless}
+use Rattle.rules.specs.Places.{Verdict, refused, lowest, unless, andThen}
 use Rattle.rules.specs.Refusals.{Lowest, Clear}
 use Rattle.rules.proofs.Places.{lowest-is, lowest-of-none, unless-refused, unless-passed}
 
@@ -45,6 +45,19 @@ refuses-at (suc n) (r ∷ rs) v c l = unless-passed (r .number) (r .places) (λ 
 pub leads-up : {A : Type 0} (rs : List Rung) (v : Verdict A) → Clear (allPlaces rs) → ladder rs v ≡ v
 leads-up [] v c = refl
 leads-up (r ∷ rs) v c = unless-passed (r .number) (r .places) (λ u. ladder rs v) (c .0) ∙ leads-up rs v (c .1)
+
+-- one check before two operations
+unless-then : {A B : Type 0} (k : ℕ) (ps : List ℕ) (before : Unit {0} → Verdict A) (next : A → Verdict B)
+    → andThen (unless k ps before) next ≡ unless k ps (λ u. andThen (before u) next)
+unfolding unless andThen
+unless-then k [] before next = refl
+unless-then k (p ∷ ps) before next = refl
+
+-- what comes after a ladder stands above its last rung
+pub ladder-then : {A B : Type 0} (rs : List Rung) (v : Verdict A) (next : A → Verdict B) → andThen (ladder rs v) next ≡ ladder rs (andThen v next)
+ladder-then [] v next = refl
+ladder-then (r ∷ rs) v next =
+    unless-then (r .number) (r .places) (λ u. ladder rs v) next ∙ ap (λ w. unless (r .number) (r .places) λ u. w) (ladder-then rs v next)
 
 -- Q, given P in each case of a ladder: of the refusal at each rung where those below are passed, and of the verdict above.
 abbrev pub Cases : {A : Type 0} → (Verdict A → Type 0) → List (List ℕ) → List Rung → Verdict A → Type 0 → Type 0

@@ -29,7 +29,7 @@ use Rattle.rules.proofs.Ladders.{Rung, ladder}
 use Rattle.rules.proofs.Accepted.{same-outs}
 use Rattle.rules.proofs.Circuits.{out-count, outs-of-shares}
 use Rattle.rules.proofs.Listed.{length-listed}
-use Rattle.rules.proofs.Refusals.{tableRungs, circuitRungs, evaluateRungs, directRungs, textRungs}
+use Rattle.rules.proofs.Refusals.{built-ladder, tableRungs, circuitRungs, evaluateRungs, directRungs, textRungs}
 use Rattle.rules.proofs.Refusals.{builds, compiles, evaluates, reads-directly, reads-text}
 
 -- Of any verdict. A refusal leaves a memory as it was.
@@ -92,8 +92,7 @@ then-numbered (accepted a) next n h = h a
 
 -- The five operations are numbered: a table's checks,
 pub built-numbered : (t : List ℕ) → Numbered (built t)
-unfolding built
-built-numbered t = ladder-numbered (tableRungs t) _ (omega arith) tt
+built-numbered t = rw (built-ladder t) (ladder-numbered (tableRungs t) _ (omega arith) tt)
 
 -- compile,
 pub compile-numbered : (t circuit : List ℕ) → Numbered (compile t circuit)

@@ -2,7 +2,7 @@
 use Prim.Native.Nat.{ℕ}
 use mathlib.Core.Path.{_≡_, refl, sym, subst, _∙_}
 use mathlib.Core.Logic.{_↔_}
-use mathlib.Core.List.{List, [], _∷_}
+use mathlib.Core.List.{List, [], _∷_, _++_}
 use Rattle.words.specs.Words.{words}
 use Rattle.rules.specs.Places.{Verdict, refused, accepted, andThen}
 use Rattle.rules.specs.Gates.{circuitWords}
@@ -10,14 +10,14 @@ use Rattle.rules.specs.Run.{State}
 use Rattle.rules.specs.Plain.{inputs}
 use Rattle.rules.specs.Answers.{failing1, failing2, failing3, failing4, failing5, failing6, failing7, failing8, failing9, failing10, failing11}
 use Rattle.rules.specs.Answers.{failing20, failing21, failing22, failing23, failing24, failing25, failingDirect, failingText, failing12, failing13}
-use Rattle.rules.specs.Answers.{runOf, built, compile, gatesOf, Lent, Evaluation, evaluate, DirectReading, readOuts, readDirectly, readText}
+use Rattle.rules.specs.Answers.{runOf, checked, built, compile, gatesOf, Lent, Evaluation, evaluate, DirectReading, readOuts, readDirectly, readText}
 use Rattle.rules.specs.Refusals.{Clear, Builds, Compiles, Evaluates, Reads, ReadsText}
 use Rattle.rules.proofs.Places.{then-refused, then-accepted}
-use Rattle.rules.proofs.Ladders.{Rung, rung, ladder, allPlaces, refuses-at, leads-up, by-cases}
+use Rattle.rules.proofs.Ladders.{Rung, rung, ladder, allPlaces, refuses-at, leads-up, ladder-then, by-cases}
 
--- The checks of each operation, as ladders: of a table,
-abbrev pub tableRungs : List ℕ → List Rung
-tableRungs t =
+-- The checks of each operation, as ladders: of a table as it stands,
+abbrev pub checkedRungs : List ℕ → List Rung
+checkedRungs t =
     rung 1 (failing1 t)
     ∷ rung 2 (failing2 t)
     ∷ rung 3 (failing3 t)
@@ -26,9 +26,11 @@ tableRungs t =
     ∷ rung 6 (failing6 t)
     ∷ rung 7 (failing7 t)
     ∷ rung 8 (failing8 t)
-    ∷ rung 9 (failing9 t)
-    ∷ rung 10 (failing10 t)
     ∷ []
+
+-- of a table and its run,
+abbrev pub tableRungs : List ℕ → List Rung
+tableRungs t = checkedRungs t ++ rung 9 (failing9 t) ∷ rung 10 (failing10 t) ∷ []
 
 -- of compile after those of the table,
 abbrev pub circuitRungs : State → List ℕ → List Rung
@@ -61,12 +63,17 @@ directRungs s i1 i2 o =
 abbrev pub textRungs : List ℕ → List ℕ → List Rung
 textRungs text table = rung 1 (failingText text) ∷ rung 12 (failing12 text) ∷ rung 13 (failing13 text table) ∷ []
 
+-- checks 1 to 8 and then 9 and 10 are one ladder
+pub built-ladder : (t : List ℕ) → built t ≡ ladder (tableRungs t) (accepted (runOf t))
+unfolding built checked andThen
+built-ladder t = ladder-then (checkedRungs t) (accepted tt) (λ u. ladder (rung 9 (failing9 t) ∷ rung 10 (failing10 t) ∷ []) (accepted (runOf t)))
+
 -- The definition is one of the cases. A table's checks:
 pub built-case : (t : List ℕ) → Builds t (built t)
-unfolding built
 built-case t =
-    by-cases (Builds t) (tableRungs t) _ (λ p c. Builds.with-1) (λ p. Builds.with-2) (λ p. Builds.with-3) (λ p. Builds.with-4) (λ p. Builds.with-5)
-    (λ p. Builds.with-6) (λ p. Builds.with-7) (λ p. Builds.with-8) (λ p. Builds.with-9) (λ p. Builds.with-10) Builds.all-hold
+    rw (built-ladder t)
+    (by-cases (Builds t) (tableRungs t) _ (λ p c. Builds.with-1) (λ p. Builds.with-2) (λ p. Builds.with-3) (λ p. Builds.with-4) (λ p. Builds.with-5)
+    (λ p. Builds.with-6) (λ p. Builds.with-7) (λ p. Builds.with-8) (λ p. Builds.with-9) (λ p. Builds.with-10) Builds.all-hold)
 
 -- compile, after a table's checks
 compile-after : (t circuit : List ℕ) (v : Verdict State) → Builds t v
@@ -112,18 +119,17 @@ text-case text table =
 
 -- The cases are the definition. A table's checks:
 pub built-is : (t : List ℕ) {v : Verdict State} → Builds t v → built t ≡ v
-unfolding built
-built-is t (Builds.with-1 l) = refuses-at 0 (tableRungs t) _ tt l
-built-is t (Builds.with-2 c l) = refuses-at 1 (tableRungs t) _ c l
-built-is t (Builds.with-3 c l) = refuses-at 2 (tableRungs t) _ c l
-built-is t (Builds.with-4 c l) = refuses-at 3 (tableRungs t) _ c l
-built-is t (Builds.with-5 c l) = refuses-at 4 (tableRungs t) _ c l
-built-is t (Builds.with-6 c l) = refuses-at 5 (tableRungs t) _ c l
-built-is t (Builds.with-7 c l) = refuses-at 6 (tableRungs t) _ c l
-built-is t (Builds.with-8 c l) = refuses-at 7 (tableRungs t) _ c l
-built-is t (Builds.with-9 c l) = refuses-at 8 (tableRungs t) _ c l
-built-is t (Builds.with-10 c l) = refuses-at 9 (tableRungs t) _ c l
-built-is t (Builds.all-hold c) = leads-up (tableRungs t) _ c
+built-is t (Builds.with-1 l) = built-ladder t ∙ refuses-at 0 (tableRungs t) _ tt l
+built-is t (Builds.with-2 c l) = built-ladder t ∙ refuses-at 1 (tableRungs t) _ c l
+built-is t (Builds.with-3 c l) = built-ladder t ∙ refuses-at 2 (tableRungs t) _ c l
+built-is t (Builds.with-4 c l) = built-ladder t ∙ refuses-at 3 (tableRungs t) _ c l
+built-is t (Builds.with-5 c l) = built-ladder t ∙ refuses-at 4 (tableRungs t) _ c l
+built-is t (Builds.with-6 c l) = built-ladder t ∙ refuses-at 5 (tableRungs t) _ c l
+built-is t (Builds.with-7 c l) = built-ladder t ∙ refuses-at 6 (tableRungs t) _ c l
+built-is t (Builds.with-8 c l) = built-ladder t ∙ refuses-at 7 (tableRungs t) _ c l
+built-is t (Builds.with-9 c l) = built-ladder t ∙ refuses-at 8 (tableRungs t) _ c l
+built-is t (Builds.with-10 c l) = built-ladder t ∙ refuses-at 9 (tableRungs t) _ c l
+built-is t (Builds.all-hold c) = built-ladder t ∙ leads-up (tableRungs t) _ c
 
 -- compile
 pub compile-is : (t circuit : List ℕ) {v : Verdict State} → Compiles t circuit v → compile t circuit ≡ v
