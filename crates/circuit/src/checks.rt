@@ -99,7 +99,7 @@ fn slot(desk: u32, number: u32) -> usize
 }
 
 // An earlier gate reads the input at another sort. No input outside the table is read.
-fn clashes(seen: &[u32; 128], desk: u32, number: u32, sort: Sort) -> bool
+pub fn clashes(seen: &[u32; 128], desk: u32, number: u32, sort: Sort) -> bool
     ensures { λ r. ⌜ (0 < desk → desk < 3 → number < 64
         → r ≡ otherThan (getD (now (seen .entry)) (slotOf desk number) 0) (sort .0)) ⌝ }
 {
@@ -171,7 +171,7 @@ fn note_wire(sorts: &mut [u32; 3000], w: usize, sort: Sort) -> usize
 }
 
 // An input that is read is noted with its sort.
-fn note_input(seen: &mut [u32; 128], desk: u32, number: u32, sort: Sort)
+pub fn note_input(seen: &mut [u32; 128], desk: u32, number: u32, sort: Sort)
     requires { ⌜ (0 < desk) × ((desk < 3) × (number < 64)) ⌝ }
     ensures { λ _. ⌜ now (seen .exit) ≡ set (now (seen .entry)) (slotOf desk number) (sort .0) ⌝ }
 {

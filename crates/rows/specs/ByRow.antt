@@ -36,17 +36,17 @@ depthAt table r = siteAt table r .depth
 abbrev pub scopeAt : List ℕ → Row → Scope
 scopeAt table r = siteAt table r .scope
 
--- what the declaration or the loop at row d of a table's words makes of its name, and the binding
+-- what the declaration or the loop at row d of a table's words makes of its name (no other row binds one), and the binding
 abbrev pub knownOf : Kind → Row → ℕ → ℕ → Known
-knownOf unknown d b c = looped d (c % 65536)
-knownOf (isE k) d b c = looped d (c % 65536)
+knownOf unknown d b c = looped d 4294967295
+knownOf (isE k) d b c = looped d 4294967295
 knownOf (isS ofDeclare) d b c = declared d (typeOf b) c
-knownOf (isS ofAssign) d b c = looped d (c % 65536)
+knownOf (isS ofAssign) d b c = looped d 4294967295
 knownOf (isS ofLoop) d b c = looped d (c % 65536)
-knownOf (isS ofWrite) d b c = looped d (c % 65536)
-knownOf (isS ofBranch) d b c = looped d (c % 65536)
-knownOf (isS ofOut) d b c = looped d (c % 65536)
-knownOf (isS ofThen) d b c = looped d (c % 65536)
+knownOf (isS ofWrite) d b c = looped d 4294967295
+knownOf (isS ofBranch) d b c = looped d 4294967295
+knownOf (isS ofOut) d b c = looped d 4294967295
+knownOf (isS ofThen) d b c = looped d 4294967295
 
 unfoldable pub knownAt : List ℕ → Row → Known
 knownAt t d = knownOf (kindAt t d) d (word t d 2) (word t d 3)
