@@ -17,11 +17,11 @@ module _ {gs : List Gate} {sorts seen : List ℕ} {w : ℕ} (noted : Noted gs so
       → {sorts' seen' : List ℕ} {r : ℕ} → sorts' ≡ set sorts w s → r ≡ w + 1 → InputsNoted (g ∷ gs) seen' → length seen' ≡ 128
       → Noted (g ∷ gs) sorts' seen' r
   wire_noted g ok made {s} is {sorts'} {seen'} {r} set_is next inputs seen_long =
-      let whole : WiresNoted (g ∷ gs) (set sorts w s) (w + 1) = noted-made noted.wires-noted g ok made (omega (arith, noted.sorts_long)) s is in
+      let whole : WiresNoted (g ∷ gs) (set sorts w s) (w + 1) = noted-made noted.wires_noted g ok made (omega (arith, noted.sorts_long)) s is in
       record {
-        wires-noted = rw (set_is, next) whole;
+        wires_noted = rw (set_is, next) whole;
         sorts_long = long 3000 sorts sorts' w s noted.sorts_long set_is;
-        inputs-noted = inputs;
+        inputs_noted = inputs;
         seen_long = seen_long;
       }
 
@@ -30,7 +30,7 @@ module _ {gs : List Gate} {sorts seen : List ℕ} {w : ℕ} (noted : Noted gs so
       → {s : ℕ} → s ≡ sort_number (sort_made (wires gs).sort g) → {sorts' : List ℕ} {r : ℕ} → sorts' ≡ set sorts w s → r ≡ w + 1
       → Noted (g ∷ gs) sorts' seen r
   quiet_noted g ok made quiet is set_is next =
-      wire_noted g ok made is set_is next (other_noted gs seen noted.inputs-noted g quiet) noted.seen_long
+      wire_noted g ok made is set_is next (other_noted gs seen noted.inputs_noted g quiet) noted.seen_long
 
   -- what is noted after a gate
   abbrev After : List ℕ → List ℕ → ℕ → Gate → Type 0
@@ -48,7 +48,7 @@ module _ {gs : List Gate} {sorts seen : List ℕ} {w : ℕ} (noted : Noted gs so
   unfolding sort_made
   mux_noted x a b new e ok is {sorts'} {r} set_is next =
       read_as_lem (After sorts' seen r) e
-      (λ kept. quiet_noted (mux x a b new) kept refl (λ d n m. refl) (is ∙ mux_sort noted.wires-noted x a b new kept) set_is next) ok
+      (λ kept. quiet_noted (mux x a b new) kept refl (λ d n m. refl) (is ∙ mux_sort noted.wires_noted x a b new kept) set_is next) ok
 
   pub constant_noted : (v s new : ℕ) {g : Gate} → with_sort (sort_numbered s) (λ m. constant v m new) ≡ some g → T (keeps_rules gs g)
       → {sorts' : List ℕ} {r : ℕ} → sorts' ≡ set sorts w s → r ≡ w + 1 → Noted (g ∷ gs) sorts' seen r
@@ -71,13 +71,13 @@ module _ {gs : List Gate} {sorts seen : List ℕ} {w : ℕ} (noted : Noted gs so
   entry_noted d n s new e ok {sorts'} {seen'} {r} set_is seen-is next =
       read_sorted (After sorts' seen' r) s (λ m. entry d n m new) e
       (λ m is kept. wire_noted (entry d n m new) kept refl is set_is next
-      (rw (seen-is, is) (input_noted gs seen noted.inputs-noted d n m new kept noted.seen_long))
+      (rw (seen-is, is) (input_noted gs seen noted.inputs_noted d n m new kept noted.seen_long))
       (long 128 seen seen' (slot_of d n) s noted.seen_long seen-is)) ok
 
   pub output_noted : (x : ℕ) {g : Gate} → some (output x) ≡ some g → Noted (g ∷ gs) sorts seen w
   output_noted x e = read_as_lem (λ g. Noted (g ∷ gs) sorts seen w) e (record {
-    wires-noted = noted_out noted.wires-noted (output x) refl;
+    wires_noted = noted_out noted.wires_noted (output x) refl;
     sorts_long = noted.sorts_long;
-    inputs-noted = other_noted gs seen noted.inputs-noted (output x) (λ d n m. refl);
+    inputs_noted = other_noted gs seen noted.inputs_noted (output x) (λ d n m. refl);
     seen_long = noted.seen_long;
   })

@@ -6,7 +6,7 @@ use Rattle.words.specs.Words.{words}
 use Rattle.words.proofs.Words.{words-length}
 use Rattle.rules.specs.Places.{failing_below}
 use Rattle.rules.specs.Refusals.{Lowest}
-use Rattle.rules.specs.Gates.{Gate, gate_at, gate_count, gates_to, wires, keeps_rules, gate_keeps, check21, circuit_fits}
+use Rattle.rules.specs.Gates.{Gate, gate_at, gate_count, gates_to, keeps_rules, gate_keeps, check21, circuit_fits}
 use Rattle.rules.specs.Answers.{gates_of, failing21}
 use Rattle.rules.proofs.Basics.{true_of, of_true, and_right}
 use Rattle.rules.proofs.Places.{first_fails, passes_on}
@@ -40,9 +40,9 @@ passed_none circuit sorts size = record {
   within = omega arith;
   none_fails = refl;
   noted = record {
-    wires-noted = noted_none sorts;
+    wires_noted = noted_none sorts;
     sorts_long = size;
-    inputs-noted = nothing_noted;
+    inputs_noted = nothing_noted;
     seen_long = length-replicate {A = ℕ} 128 0;
   };
 }
@@ -50,7 +50,7 @@ passed_none circuit sorts size = record {
 module _ {circuit sorts seen : List ℕ} {w i : ℕ} (passed : Passed circuit sorts seen w i) where
   -- there are no more wires than gates
   pub passed_wires : w ≤ i
-  passed_wires = omega (arith, passed.noted.wires-noted.count, wires-below (words circuit) i)
+  passed_wires = omega (arith, passed.noted.wires_noted.count, wires-below (words circuit) i)
 
   -- a gate that does not keep the rules is the lowest that breaks them
   pub passed_breaks : (o : Option Gate) → o ≡ gate_at (words circuit) i → i < length circuit / 20
@@ -75,7 +75,7 @@ module _ {circuit sorts seen : List ℕ} {w i : ℕ} (passed : Passed circuit so
   unfolding failing21 gates_of
   passed_all all =
       let last : i ≡ gate_count (words circuit) = omega (arith, gates_in_lem circuit, passed.within) in
-      (rw (← last) passed.none_fails, rw (← last) passed.noted.wires-noted)
+      (rw (← last) passed.none_fails, rw (← last) passed.noted.wires_noted)
 
 -- a gate that keeps the rules is one
 pub kept_is : (o : Option Gate) (gs : List Gate) → gate_keeps gs o ≡ true → (g : Gate) × ((o ≡ some g) × T (keeps_rules gs g))

@@ -42,9 +42,9 @@ InputsNoted gs seen = (d n : ℕ) → 0 < d → d < 3 → n < 64 → (m : Sort) 
 
 -- both notes, of the gates gs
 pub record Noted (gs : List Gate) (sorts seen : List ℕ) (w : ℕ) : Type 0 where
-  pub wires-noted : WiresNoted gs sorts w
+  pub wires_noted : WiresNoted gs sorts w
   pub sorts_long : length sorts ≡ 3000
-  pub inputs-noted : InputsNoted gs seen
+  pub inputs_noted : InputsNoted gs seen
   pub seen_long : length seen ≡ 128
 
 -- an input that a gate reads has a place in the table

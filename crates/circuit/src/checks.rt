@@ -200,7 +200,7 @@ fn note(gate: Gate, sorts: &mut [u32; 3000], seen: &mut [u32; 128], w: usize) ->
     }
 }
 
-#[derive(Drop)]
+#[derive(Clone, Copy)]
 pub enum Checked {
     // All gates keep the rules, and make so many wires.
     Kept { wires: usize },

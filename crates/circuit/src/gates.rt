@@ -9,21 +9,21 @@ ghost use Rattle.circuit.specs.Gates.{meant_op, meant_gate, makes_wire, read_by}
 use crate::sorts::Sort;
 
 // The number of a wire.
-#[derive(Drop)]
+#[derive(Clone, Copy)]
 pub struct Wire(pub u32);
 
 // A public value.
-#[derive(Drop)]
+#[derive(Clone, Copy)]
 pub struct Value(pub u32);
 
 // The two-sided operators.
-#[derive(Drop)]
+#[derive(Clone, Copy)]
 pub enum Op {
     Add,
     Greater,
 }
 
-#[derive(Drop)]
+#[derive(Clone, Copy)]
 pub enum Gate {
     Both {
         op: Op,
@@ -61,7 +61,7 @@ pub enum Gate {
 }
 
 // The input that a gate reads.
-#[derive(Drop)]
+#[derive(Clone, Copy)]
 pub enum Read {
     Input { desk: u32, number: u32, sort: Sort },
     Nothing,

@@ -4,7 +4,7 @@ ghost use Rattle.rules.specs.Sorts as rules;
 ghost use Rattle.rules.specs.Sorts.{same, fits_sort};
 ghost use Rattle.circuit.specs.Sorts.{as_sort, meant_sort, is_sort, converts};
 
-#[derive(Drop)]
+#[derive(Clone, Copy)]
 pub struct Sort(pub u32);
 
 impl Sort {

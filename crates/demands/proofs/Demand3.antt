@@ -185,7 +185,7 @@ module _ (c : Call) (ok : Accepted c) where
   joins : Joins c
   joins =
       record {
-        all-wires = counts_wires;
+        all_wires = counts_wires;
         each = λ k below.
             let wire : k < (wires (gates_in c)).count = omega (arith, counts_wires) in
             ap₂ (join ((wires (gates_in c)).sort k)) (one_at k wire) (two_at k wire)

@@ -22,7 +22,7 @@ paired_tape a b t = bytes_of (partner (gates_in a) (given_in a) (given_in b) (wo
 
 -- every wire's two shares, in the memories afterwards, join to the value that a plain reading gives it
 pub record Joins (c : Call) : Type 0 where
-  pub all-wires : c.answer.wires ≡ (wires (gates_in c)).count
+  pub all_wires : c.answer.wires ≡ (wires (gates_in c)).count
   pub each : (k : ℕ) → k < c.answer.wires
       → join ((wires (gates_in c)).sort k) (get_or (words c.one) k 0) (get_or (words c.two) k 0) ≡ (plain (given_in c) (gates_in c)).value k
 

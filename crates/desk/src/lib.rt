@@ -1,4 +1,6 @@
 // The desk's C interface, thin: each entry turns an operation's answer into the paper's numbers (include/desk.h).
+#![tactic(auto)]
+
 ghost use Rattle.std.specs.Prelude.{◌≡◌};
 ghost use Rattle.evaluate.specs.Promise.{answered, lent_with, Promise};
 ghost use Rattle.desk.specs.Numbers.{as_numbers};
@@ -7,7 +9,7 @@ use evaluate::{Answer, Refusal};
 
 // Number, place, and how many wires and outputs; zero counts where refused.
 #[repr(C)]
-#[derive(Drop)]
+#[derive(Clone, Copy)]
 pub struct Evaluated {
     pub number: u32,
     pub place: u32,

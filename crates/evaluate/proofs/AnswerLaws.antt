@@ -81,10 +81,10 @@ module _ (l : Lent) where
 
   -- the first two refusals
   pub promise_20 : circuit_fits l.circuit ≡ false → Refuses l 20 0
-  promise_20 e = promise_refused l (Evaluates.with-20 (refuse_20 e))
+  promise_20 e = promise_refused l (Evaluates.with_20 (refuse_20 e))
 
   pub promise_21 : {p : ℕ} → T (circuit_fits l.circuit) → Lowest p (failing21 (words l.circuit)) → Refuses l 21 p
-  promise_21 fits low = promise_refused l (Evaluates.with-21 (pass_20 fits, tt) low)
+  promise_21 fits low = promise_refused l (Evaluates.with_21 (pass_20 fits, tt) low)
 
 -- Once the gates pass.
 module _ (l : Lent) (sorts : List ℕ) (w : ℕ) (pass : GatesPass l.circuit sorts w) where
@@ -99,11 +99,11 @@ module _ (l : Lent) (sorts : List ℕ) (w : ℕ) (pass : GatesPass l.circuit sor
   few_gates = gates_at_most l.circuit pass.0
 
   pub promise_22 : {p : ℕ} → Lowest p (failing22 (words l.circuit) (words l.inputs1) (words l.inputs2)) → Refuses l 22 p
-  promise_22 low = promise_refused l (Evaluates.with-22 (pass_20 l pass.0, (pass.1.0, tt)) low)
+  promise_22 low = promise_refused l (Evaluates.with_22 (pass_20 l pass.0, (pass.1.0, tt)) low)
 
   pub promise_23 : {p : ℕ} → failing22 (words l.circuit) (words l.inputs1) (words l.inputs2) ≡ []
       → Lowest p (failing23 (words l.circuit) (words l.inputs1) (words l.inputs2)) → Refuses l 23 p
-  promise_23 no_22 low = promise_refused l (Evaluates.with-23 (pass_20 l pass.0, (pass.1.0, (no_22, tt))) low)
+  promise_23 no_22 low = promise_refused l (Evaluates.with_23 (pass_20 l pass.0, (pass.1.0, (no_22, tt))) low)
 
   -- Once the inputs pass too.
   module _ (fit : FitInputs l.circuit l.inputs1 l.inputs2) where
@@ -111,7 +111,7 @@ module _ (l : Lent) (sorts : List ℕ) (w : ℕ) (pass : GatesPass l.circuit sor
     four = (pass_20 l pass.0, (pass.1.0, (fit.no_22, (fit.no_23, tt))))
 
     pub promise_24 : length l.tape / 4 < w → Refuses l 24 0
-    promise_24 short = promise_refused l (Evaluates.with-24 four (refuse_24 l (omega (arith, pass.1.1.count))))
+    promise_24 short = promise_refused l (Evaluates.with_24 four (refuse_24 l (omega (arith, pass.1.1.count))))
 
     -- Once the tape is long enough.
     module _ (long : w ≤ length l.tape / 4) where
@@ -129,7 +129,7 @@ module _ (l : Lent) (sorts : List ℕ) (w : ℕ) (pass : GatesPass l.circuit sor
           rw (rest, pass.1.1.count)
 
       pub promise_25 : enough ≡ false → Refuses l 25 0
-      promise_25 e = promise_refused l (Evaluates.with-25 five (refuse_25 l (sym enough_is ∙ e)))
+      promise_25 e = promise_refused l (Evaluates.with_25 five (refuse_25 l (sym enough_is ∙ e)))
 
       -- with memory enough the run may begin,
       pub ready_to_run : enough ≡ true → Ready l.circuit l.tape sorts (memories l.shares1 l.shares2 l.outputs)

@@ -94,7 +94,7 @@ fn deal(sorts: &[u32; 3000], tape: &[u8], shares1: &mut [u8], shares2: &mut [u8]
 }
 
 // How many wires and outputs there are so far.
-#[derive(Drop)]
+#[derive(Clone, Copy)]
 pub struct Counts {
     pub wires: usize,
     pub outs: usize,

@@ -45,7 +45,7 @@ fn is_present(inputs1: &[u8], inputs2: &[u8], desk: u32, number: u32) -> bool
 }
 
 // Check 22, that an input read is there, and check 23, that it fits the sort it is read at: a bool is 0 or 1.
-#[derive(Drop)]
+#[derive(Clone, Copy)]
 pub enum InputCheck {
     Present,
     FitsSort,

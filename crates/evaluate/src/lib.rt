@@ -1,4 +1,6 @@
 // Evaluate a circuit on two desks' inputs and a tape (document 01, "Shares", checks 20 to 25; Figure 13).
+#![tactic(auto)]
+
 mod desks;
 mod inputs;
 
@@ -11,7 +13,7 @@ use crate::inputs::{InputCheck, lowest_failing};
 use circuit::checks::{Checked, check_gates, fits};
 
 // Why an evaluation is refused, with the lowest failing gate where one fails.
-#[derive(Drop)]
+#[derive(Clone, Copy)]
 pub enum Refusal {
     CircuitLength,
     GateBreaksRules { gate: u32 },
@@ -21,7 +23,7 @@ pub enum Refusal {
     MemoryShort,
 }
 
-#[derive(Drop)]
+#[derive(Clone, Copy)]
 pub enum Answer {
     Accepted { wires: u32, outputs: u32 },
     Refused { why: Refusal },

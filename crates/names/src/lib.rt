@@ -1,4 +1,6 @@
 // Names, labels, indexes (document 01): checks 5 to 8; and all eight checks of a table, in their order.
+#![tactic(auto)]
+
 ghost use Rattle.std.specs.Prelude.{◌≡◌, length};
 ghost use Rattle.rules.specs.Answers.{checked};
 ghost use Rattle.rows.specs.Passed.{Passes};
@@ -22,7 +24,7 @@ pub mod search;
 pub mod types;
 
 // Why a table is refused; the row is the lowest that fails the check.
-#[derive(Drop)]
+#[derive(Clone, Copy)]
 pub enum Refusal {
     // Bytes that are no whole words, no words, not four to a row, over 4,096.
     Length,
@@ -42,7 +44,7 @@ pub enum Refusal {
     Index { row: Row },
 }
 
-#[derive(Drop)]
+#[derive(Clone, Copy)]
 pub enum Verdict {
     Accepted,
     Refused { why: Refusal },

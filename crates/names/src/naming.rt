@@ -6,7 +6,7 @@ use table::meaning::Meaning;
 use table::row::Row;
 
 // What a row does with a name.
-#[derive(Drop)]
+#[derive(Clone, Copy)]
 pub enum Naming {
     Nothing,
     Reads { name: u32 },
@@ -37,7 +37,7 @@ pub fn naming_of(meaning: Meaning) -> Naming
 }
 
 // The statements in a statement, and what it binds.
-#[derive(Drop)]
+#[derive(Clone, Copy)]
 pub enum Inner {
     // A name for the statements that follow.
     Declares,

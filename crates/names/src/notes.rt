@@ -15,7 +15,7 @@ pub fn at(notes: &[u32; 1024], row: Row) -> u32
 }
 
 // What the row that binds a name says of it: the number of its type, its length (0 for what is no array) and what it counts.
-#[derive(Drop)]
+#[derive(Clone, Copy)]
 pub struct Given {
     pub ty: u32,
     pub length: u32,

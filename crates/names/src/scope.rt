@@ -128,7 +128,7 @@ fn walk_part(
 }
 
 // How many names are in scope after a statement, and what check 5 finds up to there.
-#[derive(Drop)]
+#[derive(Clone, Copy)]
 pub struct Scoped {
     pub names: usize,
     pub check: Check,

@@ -10,7 +10,7 @@ use table::meaning::meaning_at;
 use table::row::{Row, word_at};
 
 // Where a search ends: at the row that binds the name, or nowhere.
-#[derive(Drop)]
+#[derive(Clone, Copy)]
 pub enum Found {
     At { row: Row },
     Nowhere,

@@ -72,15 +72,15 @@ built-ladder t = ladder_then (checked_rungs t) (accepted tt) (λ u. ladder (rung
 pub built_case : (t : List ℕ) → Builds t (built t)
 built_case t =
     rw (built-ladder t)
-    (by_cases (Builds t) (table_rungs t) _ (λ p c. Builds.with-1) (λ p. Builds.with-2) (λ p. Builds.with-3) (λ p. Builds.with-4) (λ p. Builds.with-5)
-    (λ p. Builds.with-6) (λ p. Builds.with-7) (λ p. Builds.with-8) (λ p. Builds.with-9) (λ p. Builds.with-10) Builds.all_hold)
+    (by_cases (Builds t) (table_rungs t) _ (λ p c. Builds.with_1) (λ p. Builds.with_2) (λ p. Builds.with_3) (λ p. Builds.with_4) (λ p. Builds.with_5)
+    (λ p. Builds.with_6) (λ p. Builds.with_7) (λ p. Builds.with_8) (λ p. Builds.with_9) (λ p. Builds.with_10) Builds.all_hold)
 
 -- compile, after a table's checks
 compile-after : (t circuit : List ℕ) (v : Verdict State) → Builds t v
     → Compiles t circuit (and_then v λ s. ladder (circuit_rungs s circuit) (accepted s))
 unfolding and_then
-compile-after t circuit (refused k p) b = Compiles.as-built b
-compile-after t circuit (accepted s) b = by_cases (Compiles t circuit) (circuit_rungs s circuit) _ (λ p c. Compiles.with-11 b) (Compiles.all_hold b)
+compile-after t circuit (refused k p) b = Compiles.as_built b
+compile-after t circuit (accepted s) b = by_cases (Compiles t circuit) (circuit_rungs s circuit) _ (λ p c. Compiles.with_11 b) (Compiles.all_hold b)
 
 -- compile
 pub compile_case : (t circuit : List ℕ) → Compiles t circuit (compile t circuit)
@@ -91,8 +91,8 @@ compile_case t circuit = compile-after t circuit (built t) (built_case t)
 pub evaluate_case : (l : Lent) → Evaluates l (evaluate l)
 unfolding evaluate
 evaluate_case l =
-    by_cases (Evaluates l) (evaluate_rungs l) _ (λ p c. Evaluates.with-20) (λ p. Evaluates.with-21) (λ p. Evaluates.with-22) (λ p. Evaluates.with-23)
-    (λ p. Evaluates.with-24) (λ p. Evaluates.with-25) Evaluates.all_hold
+    by_cases (Evaluates l) (evaluate_rungs l) _ (λ p c. Evaluates.with_20) (λ p. Evaluates.with_21) (λ p. Evaluates.with_22) (λ p. Evaluates.with_23)
+    (λ p. Evaluates.with_24) (λ p. Evaluates.with_25) Evaluates.all_hold
 
 -- what the direct reading has at the end
 abbrev figures : List ℕ → List ℕ → List ℕ → State → DirectReading
@@ -102,9 +102,9 @@ figures t i1 i2 s = record { wires = s.wires; outs = read_outs t (inputs (words 
 direct-after : (t i1 i2 o : List ℕ) (v : Verdict State) → Builds t v
     → Reads t i1 i2 o (and_then v λ s. ladder (direct_rungs s i1 i2 o) (accepted (figures t i1 i2 s)))
 unfolding and_then
-direct-after t i1 i2 o (refused k p) b = Reads.as-built b
+direct-after t i1 i2 o (refused k p) b = Reads.as_built b
 direct-after t i1 i2 o (accepted s) b =
-    by_cases (Reads t i1 i2 o) (direct_rungs s i1 i2 o) _ (λ p c. Reads.with-22 b) (λ p. Reads.with-23 b) (λ p. Reads.with-25 b) (Reads.all_hold b)
+    by_cases (Reads t i1 i2 o) (direct_rungs s i1 i2 o) _ (λ p c. Reads.with_22 b) (λ p. Reads.with_23 b) (λ p. Reads.with_25 b) (Reads.all_hold b)
 
 -- direct reading
 pub direct_case : (t i1 i2 o : List ℕ) → Reads t i1 i2 o (read_directly t i1 i2 o)
@@ -115,55 +115,55 @@ direct_case t i1 i2 o = direct-after t i1 i2 o (built t) (built_case t)
 pub text_case : (text table : List ℕ) → ReadsText text table (read_text text table)
 unfolding read_text
 text_case text table =
-    by_cases (ReadsText text table) (text_rungs text table) _ (λ p c. ReadsText.with-1) (λ p. ReadsText.with-12) (λ p. ReadsText.with-13) ReadsText.all_hold
+    by_cases (ReadsText text table) (text_rungs text table) _ (λ p c. ReadsText.with_1) (λ p. ReadsText.with_12) (λ p. ReadsText.with_13) ReadsText.all_hold
 
 -- The cases are the definition. A table's checks:
 pub built_is : (t : List ℕ) {v : Verdict State} → Builds t v → built t ≡ v
-built_is t (Builds.with-1 l) = built-ladder t ∙ refuses_at 0 (table_rungs t) _ tt l
-built_is t (Builds.with-2 c l) = built-ladder t ∙ refuses_at 1 (table_rungs t) _ c l
-built_is t (Builds.with-3 c l) = built-ladder t ∙ refuses_at 2 (table_rungs t) _ c l
-built_is t (Builds.with-4 c l) = built-ladder t ∙ refuses_at 3 (table_rungs t) _ c l
-built_is t (Builds.with-5 c l) = built-ladder t ∙ refuses_at 4 (table_rungs t) _ c l
-built_is t (Builds.with-6 c l) = built-ladder t ∙ refuses_at 5 (table_rungs t) _ c l
-built_is t (Builds.with-7 c l) = built-ladder t ∙ refuses_at 6 (table_rungs t) _ c l
-built_is t (Builds.with-8 c l) = built-ladder t ∙ refuses_at 7 (table_rungs t) _ c l
-built_is t (Builds.with-9 c l) = built-ladder t ∙ refuses_at 8 (table_rungs t) _ c l
-built_is t (Builds.with-10 c l) = built-ladder t ∙ refuses_at 9 (table_rungs t) _ c l
+built_is t (Builds.with_1 l) = built-ladder t ∙ refuses_at 0 (table_rungs t) _ tt l
+built_is t (Builds.with_2 c l) = built-ladder t ∙ refuses_at 1 (table_rungs t) _ c l
+built_is t (Builds.with_3 c l) = built-ladder t ∙ refuses_at 2 (table_rungs t) _ c l
+built_is t (Builds.with_4 c l) = built-ladder t ∙ refuses_at 3 (table_rungs t) _ c l
+built_is t (Builds.with_5 c l) = built-ladder t ∙ refuses_at 4 (table_rungs t) _ c l
+built_is t (Builds.with_6 c l) = built-ladder t ∙ refuses_at 5 (table_rungs t) _ c l
+built_is t (Builds.with_7 c l) = built-ladder t ∙ refuses_at 6 (table_rungs t) _ c l
+built_is t (Builds.with_8 c l) = built-ladder t ∙ refuses_at 7 (table_rungs t) _ c l
+built_is t (Builds.with_9 c l) = built-ladder t ∙ refuses_at 8 (table_rungs t) _ c l
+built_is t (Builds.with_10 c l) = built-ladder t ∙ refuses_at 9 (table_rungs t) _ c l
 built_is t (Builds.all_hold c) = built-ladder t ∙ leads_up (table_rungs t) _ c
 
 -- compile
 pub compile_is : (t circuit : List ℕ) {v : Verdict State} → Compiles t circuit v → compile t circuit ≡ v
 unfolding compile
-compile_is t circuit (Compiles.as-built b) = then_refused _ (built_is t b)
-compile_is t circuit (Compiles.with-11 {s = s} b l) = then_accepted _ (built_is t b) ∙ refuses_at 0 (circuit_rungs s circuit) _ tt l
+compile_is t circuit (Compiles.as_built b) = then_refused _ (built_is t b)
+compile_is t circuit (Compiles.with_11 {s = s} b l) = then_accepted _ (built_is t b) ∙ refuses_at 0 (circuit_rungs s circuit) _ tt l
 compile_is t circuit (Compiles.all_hold {s = s} b c) = then_accepted _ (built_is t b) ∙ leads_up (circuit_rungs s circuit) _ c
 
 -- evaluate
 pub evaluate_is : (l : Lent) {v : Verdict Evaluation} → Evaluates l v → evaluate l ≡ v
 unfolding evaluate
-evaluate_is l (Evaluates.with-20 m) = refuses_at 0 (evaluate_rungs l) _ tt m
-evaluate_is l (Evaluates.with-21 c m) = refuses_at 1 (evaluate_rungs l) _ c m
-evaluate_is l (Evaluates.with-22 c m) = refuses_at 2 (evaluate_rungs l) _ c m
-evaluate_is l (Evaluates.with-23 c m) = refuses_at 3 (evaluate_rungs l) _ c m
-evaluate_is l (Evaluates.with-24 c m) = refuses_at 4 (evaluate_rungs l) _ c m
-evaluate_is l (Evaluates.with-25 c m) = refuses_at 5 (evaluate_rungs l) _ c m
+evaluate_is l (Evaluates.with_20 m) = refuses_at 0 (evaluate_rungs l) _ tt m
+evaluate_is l (Evaluates.with_21 c m) = refuses_at 1 (evaluate_rungs l) _ c m
+evaluate_is l (Evaluates.with_22 c m) = refuses_at 2 (evaluate_rungs l) _ c m
+evaluate_is l (Evaluates.with_23 c m) = refuses_at 3 (evaluate_rungs l) _ c m
+evaluate_is l (Evaluates.with_24 c m) = refuses_at 4 (evaluate_rungs l) _ c m
+evaluate_is l (Evaluates.with_25 c m) = refuses_at 5 (evaluate_rungs l) _ c m
 evaluate_is l (Evaluates.all_hold c) = leads_up (evaluate_rungs l) _ c
 
 -- direct reading
 pub direct_is : (t i1 i2 o : List ℕ) {v : Verdict DirectReading} → Reads t i1 i2 o v → read_directly t i1 i2 o ≡ v
 unfolding read_directly
-direct_is t i1 i2 o (Reads.as-built b) = then_refused _ (built_is t b)
-direct_is t i1 i2 o (Reads.with-22 {s = s} b l) = then_accepted _ (built_is t b) ∙ refuses_at 0 (direct_rungs s i1 i2 o) _ tt l
-direct_is t i1 i2 o (Reads.with-23 {s = s} b c l) = then_accepted _ (built_is t b) ∙ refuses_at 1 (direct_rungs s i1 i2 o) _ c l
-direct_is t i1 i2 o (Reads.with-25 {s = s} b c l) = then_accepted _ (built_is t b) ∙ refuses_at 2 (direct_rungs s i1 i2 o) _ c l
+direct_is t i1 i2 o (Reads.as_built b) = then_refused _ (built_is t b)
+direct_is t i1 i2 o (Reads.with_22 {s = s} b l) = then_accepted _ (built_is t b) ∙ refuses_at 0 (direct_rungs s i1 i2 o) _ tt l
+direct_is t i1 i2 o (Reads.with_23 {s = s} b c l) = then_accepted _ (built_is t b) ∙ refuses_at 1 (direct_rungs s i1 i2 o) _ c l
+direct_is t i1 i2 o (Reads.with_25 {s = s} b c l) = then_accepted _ (built_is t b) ∙ refuses_at 2 (direct_rungs s i1 i2 o) _ c l
 direct_is t i1 i2 o (Reads.all_hold {s = s} b c) = then_accepted _ (built_is t b) ∙ leads_up (direct_rungs s i1 i2 o) _ c
 
 -- text
 pub text_is : (text table : List ℕ) {v : Verdict (List ℕ)} → ReadsText text table v → read_text text table ≡ v
 unfolding read_text
-text_is text table (ReadsText.with-1 l) = refuses_at 0 (text_rungs text table) _ tt l
-text_is text table (ReadsText.with-12 c l) = refuses_at 1 (text_rungs text table) _ c l
-text_is text table (ReadsText.with-13 c l) = refuses_at 2 (text_rungs text table) _ c l
+text_is text table (ReadsText.with_1 l) = refuses_at 0 (text_rungs text table) _ tt l
+text_is text table (ReadsText.with_12 c l) = refuses_at 1 (text_rungs text table) _ c l
+text_is text table (ReadsText.with_13 c l) = refuses_at 2 (text_rungs text table) _ c l
 text_is text table (ReadsText.all_hold c) = leads_up (text_rungs text table) _ c
 
 -- The statements by cases say exactly what the definitions do: checks 1 to 10 of a table,

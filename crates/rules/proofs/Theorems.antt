@@ -181,7 +181,7 @@ pub all_cases_hold : AllHold cases
 all_cases_hold = proved.all_hold
 
 pub all_listings_hold : AllHold listings
-all_listings_hold = proved.listings-hold
+all_listings_hold = proved.listings_hold
 
 pub all_slips_hold : AllHold slips
-all_slips_hold = proved.slips-hold
+all_slips_hold = proved.slips_hold

@@ -1,4 +1,6 @@
 // The sharing rule of one wire (document 01, "Shares"): what each desk gets of a value, and the value of two shares.
+#![tactic(auto)]
+
 ghost use Rattle.std.specs.Prelude.{◌≡◌};
 ghost use Rattle.rules.specs.Shares.{share_one, share_two, join};
 ghost use Rattle.circuit.specs.Sorts.{meant_sort};

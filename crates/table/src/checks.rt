@@ -11,7 +11,7 @@ use crate::row::{Row, row_count, word_at};
 use crate::shapes::{Field, Sort, shape_of};
 
 // What a check finds.
-#[derive(Drop)]
+#[derive(Clone, Copy)]
 pub enum Check {
     Passed,
     // The lowest row that fails it.

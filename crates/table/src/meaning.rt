@@ -10,7 +10,7 @@ use crate::shapes::{Kind, shape_of};
 use circuit::gates::{Op, Value};
 
 // A type, by the paper's number.
-#[derive(Drop)]
+#[derive(Clone, Copy)]
 pub struct Ty(pub u32);
 
 impl Ty {
@@ -33,7 +33,7 @@ impl Ty {
     }
 }
 
-#[derive(Drop)]
+#[derive(Clone, Copy)]
 pub enum Meaning {
     Number {
         value: Value,

@@ -6,7 +6,7 @@ ghost use Rattle.rules.specs.Answers.{rows_of};
 ghost use Rattle.rows.specs.Passed.{In, Passes};
 
 // The number of a row.
-#[derive(Drop)]
+#[derive(Clone, Copy)]
 pub struct Row(pub u32);
 
 // How many rows a table has that passes check 1.

@@ -7,7 +7,7 @@ ghost use Rattle.table.specs.Shapes.{as_shape, is_expr_sort, is_stmt_sort};
 use circuit::gates::Op;
 
 // The kinds of rows.
-#[derive(Drop)]
+#[derive(Clone, Copy)]
 pub enum Kind {
     Unknown,
     Number,
@@ -27,7 +27,7 @@ pub enum Kind {
 }
 
 // What a row of a kind is.
-#[derive(Drop)]
+#[derive(Clone, Copy)]
 pub enum Sort {
     Nothing,
     Expr,
@@ -35,7 +35,7 @@ pub enum Sort {
 }
 
 // What a word of a row holds: a number of a range, or the row of an expression or of a statement.
-#[derive(Drop)]
+#[derive(Clone, Copy)]
 pub enum Field {
     Within { low: u32, high: u32 },
     Expr,
@@ -43,7 +43,7 @@ pub enum Field {
 }
 
 // A kind, what its rows are, and the fields a, b and c.
-#[derive(Drop)]
+#[derive(Clone, Copy)]
 pub struct Shape(pub Kind, pub Sort, pub Field, pub Field, pub Field);
 
 const ANY: Field = Field::Within {

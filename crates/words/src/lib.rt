@@ -1,4 +1,6 @@
 // Words in lent bytes: four bytes to a word, the lowest first. Word i lies at bytes 4i to 4i + 3.
+#![tactic(auto)]
+
 ghost use Rattle.std.specs.Prelude.{◌≡◌, ◌+◌, ◌*◌, ◌%◌, ◌≤◌, length, get_or};
 ghost use Rattle.words.specs.Words.{joined, put_at, words};
 

@@ -1,0 +1,13 @@
+-- `gates::constant` is the constant of its words, where the unlisted one is 0.
+use Rattle.std.proofs.Common.{sym}
+use Rattle.rules.specs.Gates.{gate_of}
+use Rattle.circuit.proofs.GateLaws.{unlisted_zero, unlisted_else}
+use Rattle.circuit.proofs.gates.constant.Goals as goal
+
+pub returns-then-d-eq0 : goal.returns-then-d-eq0
+unfolding gate_of
+returns-then-d-eq0 c = sym (unlisted_zero _ _ c.if-d-eq0.true)
+
+pub returns-else-d-eq0 : goal.returns-else-d-eq0
+unfolding gate_of
+returns-else-d-eq0 c = sym (unlisted_else _ _ c.if-d-eq0.false)
