@@ -17,7 +17,7 @@ use Rattle.rules.proofs.Refusals.{checked_clear}
 use Rattle.rows.specs.Passed.{Passes}
 use Rattle.rows.specs.ByRow.{node_at, scope_at, depth_at}
 use Rattle.rows.specs.Accepted.{Accepted}
-use Rattle.rows.proofs.Table.{rows_whole, rows_some, rows_few, passes_fewer}
+use Rattle.rows.proofs.Table.{rows_whole, rows_some, rows_few}
 use Rattle.rows.proofs.Formed.{fields, formed, last_is_stmt}
 use Rattle.rows.proofs.ByRows.{site_is, none_by_rows}
 

@@ -27,7 +27,7 @@ use Rattle.rows.proofs.Once.{times, rows_in, once}
 use Rattle.rows.proofs.Bridge.{Has, each_has, has_each, site_of_has, has_site_of, has-failing, failing-has}
 use Rattle.rows.proofs.Bridge.{PartIn, Fine, Closed, first-site, sites_closed}
 use Rattle.rows.proofs.Parents.{some_parent, child_lower}
-use Rattle.rows.specs.Children.{Place, ChildBy, IsChild}
+use Rattle.rows.specs.Children.{Place, IsChild}
 use Rattle.rows.proofs.Size.{size_once, bindings-sites}
 
 -- what a field of row r says of the row w that it holds: it is lower and one deeper, an expression in the same scope

@@ -1,9 +1,8 @@
 -- What stands at each row of a table, and at which depth and in which scope (document 01, "Rows" and "Names, labels, indexes"):
 -- the code goes by rows, where the rules go by trees. Only functions inside the desk cite it.
 use Rattle.std.specs.Prelude.{ℕ, ◌%◌, cond, List, [], ◌∷◌, eqb}
-use Rattle.std.proofs.Math.Option.{Option, none, some}
-use Rattle.rules.specs.Rows.{Row, Name, Kind, unknown, is_e, is_s, of_name, of_element, of_declare, of_assign, of_loop, of_write, word, kind_at}
-use Rattle.rules.specs.Rows.{of_number, of_truth, of_two, of_choose, of_input, of_branch, of_out, of_then}
+use Rattle.rules.specs.Rows.{Row, Kind, unknown, is_e, is_s, of_declare, of_assign, of_loop, of_write, word, kind_at}
+use Rattle.rules.specs.Rows.{of_branch, of_out, of_then}
 use Rattle.rules.specs.Tree.{Expr, number, Stmt, type_of, expr_at, stmt_at}
 use Rattle.rules.specs.Scope.{Known, declared, looped, Binding, Scope}
 use Rattle.rules.specs.Sites.{Node, of_e, of_s, row_n, Site, site}

@@ -7,7 +7,7 @@ use lib.ListN.{length, take}
 use Rattle.words.specs.Words.{words, bytes_of, AllWords}
 use Rattle.rules.specs.Places.{accepted}
 use Rattle.rules.specs.Gates.{AllKeep, circuit_words, wires}
-use Rattle.rules.specs.Run.{State, run}
+use Rattle.rules.specs.Run.{State}
 use Rattle.rules.specs.Plain.{Given, plain}
 use Rattle.rules.specs.Direct.{follow, begin}
 use Rattle.rules.specs.Answers.{program_of, run_of, built, failing10, failing20, failing21, gates_of}

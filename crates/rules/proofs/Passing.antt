@@ -17,7 +17,7 @@ use Rattle.rules.specs.Types.{check6}
 use Rattle.rules.specs.Labels.{all_rules, all_inputs, Closed, Secret, check7}
 use Rattle.rules.specs.Counts.{check8}
 use Rattle.rules.specs.Sorts.{Sort}
-use Rattle.rules.specs.Run.{run, start}
+use Rattle.rules.specs.Run.{start}
 use Rattle.rules.specs.Plain.{Given}
 use Rattle.rules.specs.Direct.{follow, begin}
 use Rattle.rules.specs.Accesses.{AllBelow, read_accesses, run_accesses}
