@@ -1,5 +1,5 @@
 -- The table of shapes, as code holds it (document 01, "Rows").
-use Rattle.std.specs.Prelude.{ℕ, Bool, true, false}
+use Rattle.std.specs.Prelude.{Bool, true, false}
 use Rattle.rules.specs.Rows as rules
 use Rattle.rules.specs.Rows.{unknown, is_e, is_s, of_number, of_truth, of_name, of_two, of_choose, of_element, of_input, shape_of}
 use Rattle.rules.specs.Rows.{of_declare, of_assign, of_loop, of_write, of_branch, of_out, of_then}
