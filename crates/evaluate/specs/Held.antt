@@ -25,14 +25,14 @@ abbrev pub joined_in : List ℕ → List ℕ → List ℕ → ℕ → ℕ
 joined_in sorts one two k = join (sort_from (get_or sorts k 0)) (get_or (words one) k 0) (get_or (words two) k 0)
 
 -- after the gates gs, with the tape's words, over what was lent: a share of each wire, and each output; w wires and m outputs so far
-pub record Held (given : Given) (tapeWords : List ℕ) (gs : List Gate) (lent now : Memories) (w m : ℕ) : Type 0 where
+pub record Held (given : Given) (tape_words : List ℕ) (gs : List Gate) (lent now : Memories) (w m : ℕ) : Type 0 where
   pub wires_so_far : w ≡ (wires gs).count
   pub outs_so_far : m ≡ out_count gs
-  pub one_is : now.one ≡ over (shares_one given tapeWords gs) lent.one
-  pub two_is : now.two ≡ over (shares_two given tapeWords gs) lent.two
-  pub outs_are : now.outs ≡ over (reverse (shared given tapeWords gs).outs) lent.outs
-  pub one_words : AllWords (shares_one given tapeWords gs)
-  pub two_words : AllWords (shares_two given tapeWords gs)
+  pub one_is : now.one ≡ over (shares_one given tape_words gs) lent.one
+  pub two_is : now.two ≡ over (shares_two given tape_words gs) lent.two
+  pub outs_are : now.outs ≡ over (reverse (shared given tape_words gs).outs) lent.outs
+  pub one_words : AllWords (shares_one given tape_words gs)
+  pub two_words : AllWords (shares_two given tape_words gs)
   pub one_long : length now.one ≡ length lent.one
   pub two_long : length now.two ≡ length lent.two
   pub outs_long : length now.outs ≡ length lent.outs
@@ -74,11 +74,11 @@ pub record Before (circuit tape sorts : List ℕ) (now : Memories) (i w m : ℕ)
 
 -- gate i takes memories that hold the gates before it to memories that hold it too
 abbrev pub Turned : List ℕ → Given → List ℕ → ℕ → Memories → ℕ → ℕ → Memories → ℕ → ℕ → Type 0
-Turned circuit given tapeWords i now w m now' w' m' =
-    (lent : Memories) → Held given tapeWords (gates_to (words circuit) i) lent now w m → Held given tapeWords (gates_to (words circuit) (suc i)) lent now' w' m'
+Turned circuit given tape_words i now w m now' w' m' =
+    (lent : Memories) → Held given tape_words (gates_to (words circuit) i) lent now w m → Held given tape_words (gates_to (words circuit) (suc i)) lent now' w' m'
 
 -- at the end they hold all gates, over what was lent
-pub record Done (circuit : List ℕ) (given : Given) (tapeWords : List ℕ) (lent now : Memories) : Type 0 where
-  pub one_is : now.one ≡ over (shares_one given tapeWords (gates_of circuit)) lent.one
-  pub two_is : now.two ≡ over (shares_two given tapeWords (gates_of circuit)) lent.two
-  pub outs_are : now.outs ≡ over (reverse (shared given tapeWords (gates_of circuit)).outs) lent.outs
+pub record Done (circuit : List ℕ) (given : Given) (tape_words : List ℕ) (lent now : Memories) : Type 0 where
+  pub one_is : now.one ≡ over (shares_one given tape_words (gates_of circuit)) lent.one
+  pub two_is : now.two ≡ over (shares_two given tape_words (gates_of circuit)) lent.two
+  pub outs_are : now.outs ≡ over (reverse (shared given tape_words (gates_of circuit)).outs) lent.outs

@@ -1,7 +1,7 @@
 // What a check finds; check 1, a table's length; and check 2, the shape of each row.
 ghost use Rattle.std.specs.Prelude.{◌≡◌, ◌<◌};
 ghost use Rattle.words.specs.Words.{words};
-ghost use Rattle.rules.specs.Rows.{fits as fitsField, table_fits, row_shaped};
+ghost use Rattle.rules.specs.Rows.{fits as field_fits, table_fits, row_shaped};
 ghost use Rattle.rules.specs.Answers.{failing2};
 ghost use Rattle.rows.specs.Passed.{In, Passes};
 ghost use Rattle.table.specs.Shapes.{meant_field};
@@ -42,7 +42,7 @@ fn child_sort(table: &[u8], row: Row, w: u32) -> Sort
 // The word w of a row fits its field.
 fn fits_field(table: &[u8], row: Row, w: u32, field: Field) -> bool
     requires { In table.now row.0 }
-    ensures { result ≡ fitsField (words table.now) row.0 w (meant_field field) }
+    ensures { result ≡ field_fits (words table.now) row.0 w (meant_field field) }
 {
     match field {
         Field::Within { low, high } => (low <= w) & (w <= high),
