@@ -7,3 +7,11 @@ pub mod WalkLaws
 pub mod DeclareLaws
 -- checks 6, 7 and 8: notes of rows from the lowest up
 pub mod NoteLaws
+pub mod ToldLaws
+-- check 8
+pub mod CountLaws
+-- check 6
+pub mod TypeLaws
+pub mod InputLaws
+-- check 7
+pub mod PublicLaws

@@ -19,7 +19,8 @@ use Rattle.rules.specs.Counts.{count_k}
 use Rattle.rules.specs.Answers.{rows_of, failing5}
 use Rattle.rows.specs.Passed.{Passes}
 use Rattle.rows.specs.ByRow.{node_at, site_at, scope_at, known_of, known_at}
-use Rattle.rows.proofs.Table.{passes_fewer}
+use Rattle.rows.specs.Passed as rows
+use Rattle.rows.proofs.Table.{passes_fewer, rows_in_lem}
 use Rattle.rows.proofs.ByRows.{site_is, none_by_rows}
 use Rattle.table.specs.Shapes.{as_kind}
 use Rattle.table.specs.Meaning.{type_number, meaning_of, meaning_at}
@@ -132,6 +133,13 @@ module _ (table : List ℕ) (ok : Passes 5 table) where
   pub passes_three : Passes 3 table
   passes_three = passes_fewer table 3 (passes_fewer table 4 ok)
 
+  -- so are the first two, and the first
+  pub passes_two : Passes 2 table
+  passes_two = passes_fewer table 2 passes_three
+
+  pub passes_one : Passes 1 table
+  passes_one = passes_fewer table 1 passes_two
+
   -- every row passes check 5 in its scope
   pub named_at : (r : ℕ) → r < rows_of table → T (named (scope_at table r) (node_at (words table) r))
   unfolding check5 failing5
@@ -166,3 +174,11 @@ module _ (f : Scope → Expr → ℕ) (table : List ℕ) where
   pub noted-part : {decl notes : List ℕ} {r : ℕ} → CanNote f table decl notes r → (w : ℕ) → w < r → T (is_expr (kind_at (words table) w))
       → scope_at table w ≡ scope_at table r → get_or notes w 0 ≡ f (scope_at table r) (expr_at (words table) w)
   noted-part can w low e same = can.lower w low e ∙ ap (λ sc. f sc (expr_at (words table) w)) same
+
+-- a row whose parts are noted lies in the table, and so does the row that binds its name
+module _ {f : Scope → Expr → ℕ} {table decl notes : List ℕ} {r : ℕ} (can : CanNote f table decl notes r) where
+  pub row_in : rows.In table r
+  row_in = rows_in_lem table (passes_one table can.passes) r can.there
+
+  pub binder_in : rows.In table (get_or decl r 0)
+  binder_in = rows_in_lem table (passes_one table can.passes) (get_or decl r 0) (can.declares.inside r can.there)
