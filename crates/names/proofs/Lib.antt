@@ -15,3 +15,5 @@ pub mod TypeLaws
 pub mod InputLaws
 -- check 7
 pub mod PublicLaws
+pub mod RuleLaws
+pub mod LabelLaws

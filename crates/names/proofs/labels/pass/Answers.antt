@@ -1,0 +1,7 @@
+-- `labels::pass` follows the rules of all rows, one after the other.
+use Rattle.std.proofs.Common.{arith}
+use Rattle.names.proofs.LabelLaws.{followed_on}
+use Rattle.names.proofs.labels.pass.Goals as goal
+
+pub loop-i-preserved : goal.loop-i-preserved
+loop-i-preserved c = (omega arith, followed_on (omega arith) (omega arith) c.loop-i.invariant.1 c.follow-more.ensures)
