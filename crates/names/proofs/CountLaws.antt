@@ -1,6 +1,6 @@
 -- Check 8 in code: the count of an expression and the rule for an index, kind by kind.
-use Rattle.std.proofs.Common.{ℕ, ◌≡◌, refl, sym, ap, ◌∙◌, List, get_or, max}
-use Rattle.std.proofs.Math.Dec.{T, ltb}
+use Rattle.std.proofs.Common.{ℕ, ◌≡◌, refl, sym, ap, ◌∙◌, List, get_or}
+use Rattle.std.proofs.Math.Dec.{T}
 use Rattle.words.specs.Words.{words}
 use Rattle.rules.specs.Rows.{Kind, unknown, is_e, is_s, word, kind_at, is_expr}
 use Rattle.rules.specs.Rows.{of_declare, of_assign, of_loop, of_write, of_branch, of_out, of_then, of_number, of_truth, of_name, of_two, of_choose, of_element, of_input}

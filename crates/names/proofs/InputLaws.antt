@@ -1,5 +1,5 @@
 -- The inputs that rows read, in check 6: whether a lower row reads a row's input at the other type, and the table that tells it.
-use Rattle.std.proofs.Common.{ℕ, zero, suc, ◌+◌, ◌≤◌, ◌<◌, ◌≡◌, refl, sym, ap, ◌∙◌, Bool, true, false, not, cond, ◌&&◌, ◌||◌, List, [], ◌∷◌, ◌++◌, length, get_or, set, map, add-one, arith}
+use Rattle.std.proofs.Common.{ℕ, zero, suc, ◌+◌, ◌≤◌, ◌<◌, ◌≡◌, refl, sym, ap, ◌∙◌, Bool, true, false, not, ◌&&◌, ◌||◌, List, ◌∷◌, ◌++◌, get_or, set, add-one, arith}
 use Rattle.std.proofs.Math.Dec.{eqb, eqb-suc-zero, eqb-zero-suc, eqb-suc-suc}
 use Rattle.std.proofs.Math.ListN.{replicate, length-set, length-replicate, get_or-map, get_or-replicate}
 use Rattle.std.proofs.Math.Seq.{get_or-set_same, get_or-set_other}
@@ -7,22 +7,21 @@ use borrow.Author.Tests.{eqb-true, eqb-false}
 use Rattle.words.specs.Words.{words}
 use Rattle.rules.specs.Rows.{Ty, uint, bool, Kind, unknown, is_e, is_s, kinds, word, kind_at}
 use Rattle.rules.specs.Rows.{of_declare, of_assign, of_loop, of_write, of_branch, of_out, of_then, of_number, of_truth, of_name, of_two, of_choose, of_element, of_input}
-use Rattle.rules.specs.Tree.{type_of, expr_of, stmt_of}
+use Rattle.rules.specs.Tree.{type_of, expr_of}
 use Rattle.rules.specs.Sites.{Site}
 use Rattle.rules.specs.Types.{differs, clash_to, typed, check6}
 use Rattle.rules.specs.Sorts.{sort_number, kept_at}
 use Rattle.rules.specs.Answers.{rows_of}
 use Rattle.circuit.specs.Noted.{slot_of, other_than}
 use Rattle.rows.specs.Passed.{Passes}
-use Rattle.rows.specs.ByRow.{node_of, site_at, scope_at}
+use Rattle.rows.specs.ByRow.{site_at, scope_at}
 use Rattle.rows.proofs.Table.{passes_fewer}
-use Rattle.rows.proofs.Formed.{Formed, Fields, fields, formed, node_law}
+use Rattle.rows.proofs.Formed.{fields, formed, node_law}
 use Rattle.rows.proofs.ByRows.{site_is}
 use Rattle.table.specs.Shapes.{as_kind}
 use Rattle.table.specs.Meaning.{type_number, as_type, meaning_of, meaning_at}
 use Rattle.names.specs.Types.{sort_kept, read_of, ReadIn, otherwise, seen_after, read_below, InputsSeen}
 use Rattle.names.proofs.NoteLaws.{passes_three}
-use Rattle.names.proofs.ToldLaws.{node_with}
 
 -- a kind reads an input
 abbrev reads : Kind → Bool

@@ -1,9 +1,9 @@
 -- The passes over the rules of labels: each mark is in every set in which the rules hold, and where a pass makes none they hold.
-use Rattle.std.proofs.Common.{ℕ, zero, suc, ◌+◌, ◌≤◌, ◌<◌, ◌≡◌, refl, sym, ap, subst, ◌∙◌, Bool, true, false, cond, ◌&&◌, ◌||◌, List, [], length, get_or, set, add-one, arith}
+use Rattle.std.proofs.Common.{ℕ, zero, suc, ◌+◌, ◌≤◌, ◌<◌, ◌≡◌, refl, sym, ap, subst, ◌∙◌, Bool, true, false, cond, ◌&&◌, ◌||◌, List, [], length, get_or, set, arith}
 use Rattle.std.proofs.Math.Dec.{T, eqb}
 use Rattle.std.proofs.Math.ListN.{length-set}
 use Rattle.std.proofs.Math.Seq.{get_or-set_same, get_or-set_other}
-use mathlib.Core.Logic.{◌⊎◌, inl, inr, ◌↔◌, ◌≢◌}
+use mathlib.Core.Logic.{inl, inr, ◌↔◌, ◌≢◌}
 use mir.Facts.{or_yes}
 use borrow.Author.Tests.{eqb-true, eqb-false}
 use native.Mathlib.Decide.{dec_le}
@@ -11,17 +11,15 @@ use Rattle.words.specs.Words.{words}
 use Rattle.rules.specs.Rows.{Kind, unknown, is_e, is_s, word, kind_at, shape_of, row_shaped}
 use Rattle.rules.specs.Rows.{of_declare, of_assign, of_loop, of_write, of_branch, of_out, of_then, of_number, of_truth, of_name, of_two, of_choose, of_element, of_input}
 use Rattle.rules.specs.Scope.{lookup}
-use Rattle.rules.specs.Sites.{Site}
-use Rattle.rules.specs.Labels.{all_rules, all_inputs, Closed, Secret, has}
+use Rattle.rules.specs.Labels.{all_rules, all_inputs, Closed, Secret}
 use Rattle.rules.specs.Answers.{program_of, rows_of, sites_of, failing2, secret_in}
 use Rattle.rules.proofs.Basics.{or_left, or_right}
 use Rattle.rules.proofs.Places.{none_below}
 use Rattle.rules.proofs.Sites.{Each, each_map}
-use Rattle.rules.proofs.Formed.{FormedS, program_formed}
-use Rattle.rules.proofs.Sited.{SiteFormed, stmt_sites}
+use Rattle.rules.proofs.Formed.{program_formed}
+use Rattle.rules.proofs.Sited.{stmt_sites}
 use Rattle.rules.proofs.Labels.{RowsBelow, ClosedAt, closed, exactly, each_rules, rules_each}
 use Rattle.rows.specs.Passed.{Passes}
-use Rattle.rows.specs.ByRow.{site_at}
 use Rattle.rows.proofs.Table.{rows_some, rows_few}
 use Rattle.rows.proofs.Formed.{Fields, fields, formed}
 use Rattle.rows.proofs.ByRows.{each_by_rows, rows_by_each}

@@ -1,6 +1,6 @@
 -- What the notes of checks 6, 7 and 8 rest on: what the row that binds a name says of it, and notes of rows from the lowest up.
-use Prim.Native.Nat.{ℕ, zero, suc, ◌+◌, ◌≤◌, ◌<◌}
-use mathlib.Core.Path.{◌≡◌, refl, sym, ap, ◌∙◌, subst}
+use Prim.Native.Nat.{ℕ, ◌+◌, ◌<◌}
+use mathlib.Core.Path.{◌≡◌, refl, ap, ◌∙◌, subst}
 use mathlib.Core.Bool.{Bool, true, false}
 use mathlib.Core.Option.{Option, none, some}
 use mathlib.Core.List.{List}
@@ -12,13 +12,13 @@ use native.Mathlib.Omega.{arith}
 use Rattle.words.specs.Words.{words}
 use Rattle.rules.specs.Rows.{Kind, unknown, is_e, is_s, word, kind_at, is_expr}
 use Rattle.rules.specs.Rows.{of_declare, of_assign, of_loop, of_write, of_branch, of_out, of_then, of_number, of_truth, of_name, of_two, of_choose, of_element, of_input}
-use Rattle.rules.specs.Tree.{Expr, type_of, expr_at}
+use Rattle.rules.specs.Tree.{Expr, expr_at}
 use Rattle.rules.specs.Scope.{Known, Scope, lookup, type_k, length_k}
 use Rattle.rules.specs.Names.{is_found, is_declared, named, check5}
 use Rattle.rules.specs.Counts.{count_k}
 use Rattle.rules.specs.Answers.{rows_of, failing5}
 use Rattle.rows.specs.Passed.{Passes}
-use Rattle.rows.specs.ByRow.{node_at, site_at, scope_at, known_of, known_at}
+use Rattle.rows.specs.ByRow.{node_at, scope_at, known_of, known_at}
 use Rattle.rows.specs.Passed as rows
 use Rattle.rows.proofs.Table.{passes_fewer, rows_in_lem}
 use Rattle.rows.proofs.ByRows.{site_is, none_by_rows}

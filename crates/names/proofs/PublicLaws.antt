@@ -10,8 +10,7 @@ use Rattle.rules.specs.Labels.{public, check7}
 use Rattle.rules.specs.Answers.{rows_of, secret_in}
 use Rattle.rows.specs.Passed.{Passes}
 use Rattle.rows.specs.ByRow.{node_at, site_at}
-use Rattle.rows.proofs.Table.{passes_fewer}
-use Rattle.rows.proofs.Formed.{Formed, Holds, Fields, fields, formed, node_law, node_row}
+use Rattle.rows.proofs.Formed.{Formed, Holds, fields, formed, node_law, node_row}
 use Rattle.rows.proofs.Heads.{node_expr}
 use Rattle.rows.proofs.ByRows.{site_is}
 use Rattle.table.specs.Shapes.{as_kind}

@@ -1,26 +1,25 @@
 -- The rules of labels, kind by kind: a set of rows keeps a row's rules and has its input exactly if the rule holds in it that the code
 -- follows at the row.
-use Rattle.std.proofs.Common.{ℕ, ◌<◌, ◌≡◌, refl, sym, ap, subst, ◌∙◌, Bool, true, false, ◌&&◌, ◌||◌, List, [], ◌∷◌, get_or, arith}
-use Rattle.std.proofs.Math.Option.{Option, some}
+use Rattle.std.proofs.Common.{ℕ, ◌<◌, ◌≡◌, refl, sym, ap, subst, ◌∙◌, Bool, ◌&&◌, ◌||◌, List, get_or, arith}
+use Rattle.std.proofs.Math.Option.{some}
 use Rattle.std.proofs.Math.Dec.{T}
-use mathlib.Core.Logic.{◌⊎◌, ⊎_elim, ◌↔◌}
+use mathlib.Core.Logic.{⊎_elim, ◌↔◌}
 use mir.Facts.{or_yes}
 use Rattle.words.specs.Words.{words}
-use Rattle.rules.specs.Rows.{Kind, unknown, is_e, is_s, word, kind_at, is_expr, Field, within, expr, stmt, shape_of}
+use Rattle.rules.specs.Rows.{Kind, unknown, is_e, is_s, word, kind_at, Field, within, expr, stmt, shape_of}
 use Rattle.rules.specs.Rows.{of_declare, of_assign, of_loop, of_write, of_branch, of_out, of_then, of_number, of_truth, of_name, of_two, of_choose, of_element, of_input}
-use Rattle.rules.specs.Tree.{row_e, expr_of, stmt_of, expr_at, program, stmt_at}
+use Rattle.rules.specs.Tree.{row_e, expr_of, stmt_of, expr_at}
 use Rattle.rules.specs.Scope.{Known, declared, looped, Scope, lookup}
 use Rattle.rules.specs.Names.{is_declared, named}
-use Rattle.rules.specs.Sites.{Site, site}
+use Rattle.rules.specs.Sites.{site}
 use Rattle.rules.specs.Labels.{when_read, when_stored, rules_of, inputs_of, Has, Keeps}
 use Rattle.rules.specs.Answers.{rows_of}
 use Rattle.rules.proofs.Basics.{or_left, or_right}
 use Rattle.rules.proofs.Labels.{ClosedAt}
 use Rattle.rows.specs.Passed.{Passes}
-use Rattle.rows.specs.ByRow.{node_at, site_at, depth_at, scope_at, known_at}
-use Rattle.rows.proofs.Formed.{Formed, Holds, Fields, fields, formed, node_law}
+use Rattle.rows.specs.ByRow.{site_at, depth_at, scope_at, known_at}
+use Rattle.rows.proofs.Formed.{Formed, Holds, fields, formed, node_law}
 use Rattle.rows.proofs.ByRows.{site_is}
-use Rattle.table.specs.declared.meaning.Meaning.{Meaning}
 use Rattle.table.specs.Shapes.{as_kind}
 use Rattle.table.specs.Meaning.{meaning_of, meaning_at}
 use Rattle.names.specs.declared.notes.Given.{Given}
@@ -71,10 +70,6 @@ module _ (S : ℕ → Bool) (t : List ℕ) (sc : Scope) (r a b c : ℕ) (q : Kno
   -- the rules and the input of such a row
   abbrev Kept : Kind → Type 0
   Kept k = Keeps S (rules_of sc (node_with t r k a b c)) × Has S (inputs_of (node_with t r k a b c))
-
-  -- where no rule is, none is followed
-  nothing : {A : Type 0} → (⊥ → A) ↔ (Unit {0} × Unit {0})
-  nothing = (λ f. (tt, tt), λ k h. absurd h)
 
   rule_of_kind : (k : Kind) → Known5 t sc r k a b c q given → RowIn t (shape_of k).a a → RowIn t (shape_of k).b b → RowIn t (shape_of k).c c
       → Follows k ↔ Kept k

@@ -1,5 +1,5 @@
 -- What the code knows of a row before it checks the row: what the row's name stands for, and what is noted of the expressions in it.
-use Rattle.std.proofs.Common.{ℕ, ◌<◌, ◌≡◌, refl, sym, ap, ◌∙◌, List, get_or}
+use Rattle.std.proofs.Common.{ℕ, ◌<◌, ◌≡◌, refl, ◌∙◌, List, get_or}
 use Rattle.std.proofs.Math.Option.{Option, some}
 use Rattle.std.proofs.Math.Dec.{T}
 use Rattle.words.specs.Words.{words}
@@ -12,7 +12,7 @@ use Rattle.rules.specs.Counts.{count_k}
 use Rattle.rules.specs.Answers.{rows_of}
 use Rattle.circuit.specs.Gates.{meant_op}
 use Rattle.rows.specs.Passed.{Passes}
-use Rattle.rows.specs.ByRow.{node_of, node_at, scope_at, known_at}
+use Rattle.rows.specs.ByRow.{node_of, scope_at, known_at}
 use Rattle.rows.proofs.Table.{passes_fewer}
 use Rattle.rows.proofs.Formed.{Formed, formed, node_law}
 use Rattle.rows.proofs.ByRows.{Kid, kids}

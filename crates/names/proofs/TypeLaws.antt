@@ -1,18 +1,18 @@
 -- Check 6 in code: the type of an expression, the rule at a row, and the inputs read so far, kind by kind.
-use Rattle.std.proofs.Common.{ℕ, zero, suc, ◌+◌, ◌≤◌, ◌<◌, ◌≡◌, refl, sym, ap, ◌∙◌, Bool, true, false, not, ◌&&◌, ◌||◌, List, get_or, arith}
+use Rattle.std.proofs.Common.{ℕ, ◌≡◌, refl, sym, ap, ◌∙◌, Bool, not, List, get_or}
 use Rattle.std.proofs.Math.Dec.{T, eqb}
 use Rattle.words.specs.Words.{words}
 use Rattle.rules.specs.Rows.{Ty, uint, bool, Kind, unknown, is_e, is_s, word, kind_at, is_expr}
 use Rattle.rules.specs.Rows.{of_declare, of_assign, of_loop, of_write, of_branch, of_out, of_then, of_number, of_truth, of_name, of_two, of_choose, of_element, of_input}
-use Rattle.rules.specs.Tree.{type_of, expr_of, stmt_of, expr_at}
+use Rattle.rules.specs.Tree.{expr_of, stmt_of, expr_at}
 use Rattle.rules.specs.Scope.{Known, Scope, lookup, type_found, length_found}
 use Rattle.rules.specs.Names.{named}
 use Rattle.rules.specs.Sites.{Site}
-use Rattle.rules.specs.Types.{result_type, type_e, is_a, differs, clash_to, typed, check6}
+use Rattle.rules.specs.Types.{type_e, is_a, clash_to, typed, check6}
 use Rattle.rules.specs.Answers.{rows_of}
 use Rattle.rows.specs.ByRow.{site_at, scope_at}
 use Rattle.rows.proofs.Table.{passes_fewer}
-use Rattle.rows.proofs.Formed.{Formed, Fields, fields, formed, expr_law, node_law}
+use Rattle.rows.proofs.Formed.{Formed, formed, expr_law, node_law}
 use Rattle.rows.proofs.ByRows.{site_is}
 use Rattle.table.specs.Shapes.{as_kind}
 use Rattle.table.specs.Meaning.{type_number, meaning_of, meaning_at}

@@ -1,7 +1,6 @@
 -- The scope as a stack of the rows that bind its names, the newest last; and a search in it (document 01, "Names, labels, indexes").
 -- Only functions inside the desk cite it.
 use Rattle.std.specs.Prelude.{ℕ, zero, suc, ◌≤◌, ◌<◌, ◌≡◌, List, [], ◌∷◌, length, get_or}
-use Rattle.std.proofs.Math.Option.{Option}
 use Rattle.words.specs.Words.{words}
 use Rattle.rules.specs.Rows.{Name}
 use Rattle.rules.specs.Scope.{Scope, lookup}

@@ -4,8 +4,6 @@ use Rattle.std.specs.Prelude.{ℕ, zero, suc, ◌<◌, ◌≡◌, Bool, true, fa
 use Rattle.words.specs.Words.{words}
 use Rattle.rules.specs.Rows as rules
 use Rattle.rules.specs.Rows.{word}
-use Rattle.rules.specs.Tree.{Expr}
-use Rattle.rules.specs.Scope.{Scope}
 use Rattle.rules.specs.Types.{type_e, result_type}
 use Rattle.rules.specs.Sorts.{sort_number, kept_at}
 use Rattle.circuit.specs.Gates.{meant_op}

@@ -1,5 +1,5 @@
 -- `counts::check_indexes` finds the lowest row that fails check 8.
-use Rattle.std.proofs.Common.{◌<◌, ◌≡◌, sym, ◌∙◌, ℕ, length, arith}
+use Rattle.std.proofs.Common.{◌<◌, sym, ◌∙◌, ℕ, length, arith}
 use Rattle.std.proofs.Math.ListN.{replicate, length-set, length-replicate}
 use Rattle.rules.specs.Counts.{count, check8}
 use Rattle.rules.specs.Answers.{rows_of, failing8}

@@ -11,7 +11,7 @@ abbrev pub invariant-loop-i : goal.invariant-loop-i
 invariant-loop-i l = record {
   first : FirstPass (λ r. check8 (site_at l.table r)) (rows_of l.table) l.i;
   long : length l.counts ≡ 1024;
-  noted : NotedTo count l.table l.counts l.i
+  noted : NotedTo count l.table l.counts l.i;
 }
 
 abbrev pub decreases-loop-i : goal.decreases-loop-i

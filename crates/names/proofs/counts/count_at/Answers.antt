@@ -1,5 +1,4 @@
 -- `counts::count_at` is the count of the expression at the row.
-use Rattle.std.proofs.Common.{arith, ◌∙◌, sym}
 use Rattle.names.proofs.NoteLaws.{row_in, binder_in}
 use Rattle.names.proofs.CountLaws.{count_at_row}
 use Rattle.names.proofs.counts.count_at.Goals as goal

@@ -1,5 +1,5 @@
 -- `types::check_types` finds the lowest row that fails check 6.
-use Rattle.std.proofs.Common.{◌<◌, ◌≡◌, ◌+◌, sym, ◌∙◌, ap, ℕ, length, arith}
+use Rattle.std.proofs.Common.{◌<◌, sym, ◌∙◌, ℕ, length, arith}
 use Rattle.std.proofs.Math.ListN.{replicate, length-set, length-replicate}
 use Rattle.words.specs.Words.{words}
 use Rattle.rules.specs.Types.{type_e, check6}
@@ -9,7 +9,6 @@ use Rattle.rows.proofs.Table.{rows_few, rows_in_lem}
 use Rattle.rows.proofs.ByRows.{by_rows_lowest, by_rows_none}
 use Rattle.table.specs.Meaning.{type_number}
 use Rattle.table.proofs.LoopLaws.{first_none, first_breaks, first_next, first-all}
-use Rattle.names.specs.Types.{InputsSeen}
 use Rattle.names.proofs.NoteLaws.{passes_three, passes_two, passes_one, noted_none, noted-next}
 use Rattle.names.proofs.InputLaws.{read_in, seen_none, seen_next, passing_clash}
 use Rattle.names.proofs.types.check_types.Goals as goal

@@ -15,7 +15,7 @@ invariant-loop-i l = record {
   first : FirstPass (λ r. check6 (words l.table) (site_at l.table r)) (rows_of l.table) l.i;
   long : length l.types ≡ 1024;
   noted : NotedTo (λ sc e. type_number (type_e sc e)) l.table l.types l.i;
-  seen : InputsSeen l.table l.seen l.i
+  seen : InputsSeen l.table l.seen l.i;
 }
 
 abbrev pub decreases-loop-i : goal.decreases-loop-i
