@@ -1,7 +1,6 @@
 -- The operation's cases: each way out of the code is a line of the paper's table, and its promise holds there.
 use Prim.Native.Nat.{ℕ, ◌+◌, ◌-◌, ◌/◌, ◌≤◌, ◌<◌}
-use mathlib.Core.Path.{◌≡◌, refl, sym, ap, ◌∙◌}
-use mathlib.Core.Logic.{inl}
+use mathlib.Core.Path.{◌≡◌, sym, ap, ◌∙◌}
 use mathlib.Core.Bool.{Bool, true, false, ◌&&◌}
 use mathlib.Core.List.{List, [], reverse}
 use lib.Dec.{T, leb}
@@ -17,7 +16,7 @@ use Rattle.rules.specs.Shares.{tape_for, shared}
 use Rattle.rules.specs.Answers.{Lent, evaluation, evaluate, evaluate_answer, leaves_one, leaves_two, leaves_outs}
 use Rattle.rules.specs.Answers.{gates_of, out_count, FitInputs, failing20, failing21, failing22, failing23, failing24, failing25}
 use Rattle.rules.specs.Refusals.{Lowest, Clear, evaluate_checks, Evaluates}
-use Rattle.rules.proofs.Places.{none_fault}
+use Rattle.rules.proofs.Places.{none_fault, lowest_fault}
 use Rattle.rules.proofs.Refusals.{evaluates}
 use Rattle.rules.proofs.Memories.{passed_25}
 use Rattle.rules.proofs.Circuits.{wires_and_outs, outs_of_shares}
@@ -36,11 +35,6 @@ promise_refused l {k} {p} case =
     let is : evaluate l ≡ refused k p = (evaluates l (refused k p)).0 case in
     record { answer_is = rw is; one_is = rw is; two_is = rw is; outs_are = rw is }
 
--- the only place of a test that fails at 0
-lowest_zero : (t : Bool) → t ≡ false → Lowest 0 (fault t 0)
-unfolding fault
-lowest_zero t e = rw e (record { one_of = inl refl; below_all = λ q i. omega arith })
-
 module _ (l : Lent) where
   abbrev gs : List Gate
   gs = gates_of l.circuit
@@ -48,7 +42,7 @@ module _ (l : Lent) where
   -- 20
   refuse_20 : circuit_fits l.circuit ≡ false → Lowest 0 (failing20 l.circuit)
   unfolding failing20
-  refuse_20 e = lowest_zero (circuit_fits l.circuit) e
+  refuse_20 e = lowest_fault (circuit_fits l.circuit) e
 
   pass_20 : T (circuit_fits l.circuit) → failing20 l.circuit ≡ []
   unfolding failing20
@@ -57,7 +51,7 @@ module _ (l : Lent) where
   -- 24
   refuse_24 : length l.tape / 4 < (wires gs).count → Lowest 0 (failing24 gs l.tape)
   unfolding failing24 tape_for
-  refuse_24 h = lowest_zero _ (lt-leb (wires gs).count (length (words l.tape)) (omega (arith, words-length l.tape)))
+  refuse_24 h = lowest_fault _ (lt-leb (wires gs).count (length (words l.tape)) (omega (arith, words-length l.tape)))
 
   pass_24 : (wires gs).count ≤ length l.tape / 4 → failing24 gs l.tape ≡ []
   unfolding failing24 tape_for
@@ -73,7 +67,7 @@ module _ (l : Lent) where
   room_is = rw (words-length l.shares1, words-length l.shares2, words-length l.outputs)
 
   refuse_25 : room ≡ false → Lowest 0 (failing25 gs l.shares1 l.shares2 l.outputs)
-  refuse_25 e = rw room_is (lowest_zero room e)
+  refuse_25 e = rw room_is (lowest_fault room e)
 
   pass_25 : room ≡ true → failing25 gs l.shares1 l.shares2 l.outputs ≡ []
   unfolding fault

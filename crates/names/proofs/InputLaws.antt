@@ -1,5 +1,7 @@
 -- The inputs that rows read, in check 6: whether a lower row reads a row's input at the other type, and the table that tells it.
 use Rattle.std.proofs.Common.{ℕ, zero, suc, ◌+◌, ◌≤◌, ◌<◌, ◌≡◌, refl, sym, ap, ◌∙◌, Bool, true, false, not, ◌&&◌, ◌||◌, List, ◌∷◌, ◌++◌, get_or, set, add-one, arith}
+use Rattle.std.proofs.Math.Bool.{or-false}
+use Rattle.std.proofs.lemmas.Bool.{not-true}
 use Rattle.std.proofs.Math.Dec.{eqb, eqb-suc-zero, eqb-zero-suc, eqb-suc-suc}
 use Rattle.std.proofs.Math.ListN.{replicate, length-set, length-replicate, get_or-map, get_or-replicate}
 use Rattle.std.proofs.Math.Seq.{get_or-set_same, get_or-set_other}
@@ -70,17 +72,9 @@ unfolding clash_to differs read_below
 clash_is t r zero = refl
 clash_is t r (suc i) = rw (clash_is t r i)
 
-or_none : (x : Bool) → (x || false) ≡ x
-or_none true = refl
-or_none false = refl
-
 or_all : (x : Bool) → (x || true) ≡ true
 or_all true = refl
 or_all false = refl
-
-fails : (x : Bool) → not x ≡ true → x ≡ false
-fails true e = sym e
-fails false e = refl
 
 -- row i of a table that passes check 2, with its words a, b and c
 module _ (table : List ℕ) (ok : Passes 2 table) (i : ℕ) (h : i < rows_of table) where
@@ -140,7 +134,7 @@ module _ (table : List ℕ) (ok : Passes 2 table) (i : ℕ) (h : i < rows_of tab
     unfolding read_below
     quiet silent = record {
       long = told.long;
-      tells = λ d n some_desk two_desks few y. let none = reads_eight t i ∙ silent in rw (add-one i, none, or_none) (told.tells d n some_desk two_desks few y);
+      tells = λ d n some_desk two_desks few y. let none = reads_eight t i ∙ silent in rw (add-one i, none, or-false) (told.tells d n some_desk two_desks few y);
     }
 
     -- at the place of the row's input, where no lower row clashes with it
@@ -185,10 +179,10 @@ module _ (table : List ℕ) (ok : Passes 2 table) (i : ℕ) (h : i < rows_of tab
             rw (p, q, ← (eqb-true b d p), ← (eqb-true c n q), get_or-set_same seen (slot_of b c) s 0 (omega (arith, told.long, in_words)))
             (same_place (type_of a) y (sym number) none)
         go d n some_desk two_desks few y true p false q =
-            rw (p, q, or_none)
+            rw (p, q, or-false)
             (apart d n (λ same. absurd (omega (arith, same, eqb-true b d p, eqb-false c n q))) y some_desk two_desks few)
         go d n some_desk two_desks few y false p v q =
-            rw (p, or_none)
+            rw (p, or-false)
             (apart d n (λ same. absurd (omega (arith, same, eqb-false b d p, in_words))) y some_desk two_desks few)
 
     -- so the table is right with a row more that passes
@@ -230,4 +224,4 @@ passing_clash table ok i h passes e =
     let three = passes_three table ok in
     let at_node = ap (λ (s : Site). typed t s.scope s.node) (site_is table three i h) in
     let law = ap (typed t (scope_at table i)) (node_law (formed table (passes_fewer table 2 three)) i h) in
-    fails (clash_to t i i) (rw e at (sym (at_node ∙ law) ∙ passes))
+    not-true (clash_to t i i) (rw e at (sym (at_node ∙ law) ∙ passes))

@@ -1,26 +1,23 @@
 -- The passes over the rules of labels: each mark is in every set in which the rules hold, and where a pass makes none they hold.
-use Rattle.std.proofs.Common.{ℕ, zero, suc, ◌+◌, ◌≤◌, ◌<◌, ◌≡◌, refl, sym, ap, subst, ◌∙◌, Bool, true, false, cond, ◌&&◌, ◌||◌, List, [], length, get_or, set, arith}
+use Rattle.std.proofs.Common.{ℕ, zero, suc, ◌+◌, ◌≤◌, ◌<◌, ◌≡◌, refl, sym, ap, subst, ◌∙◌, Bool, true, false, cond, ◌&&◌, ◌||◌, List, length, get_or, set, arith}
+use Rattle.std.proofs.lemmas.Bool.{true≢false}
 use Rattle.std.proofs.Math.Dec.{T, eqb}
 use Rattle.std.proofs.Math.ListN.{length-set}
 use Rattle.std.proofs.Math.Seq.{get_or-set_same, get_or-set_other}
-use mathlib.Core.Logic.{inl, inr, ◌↔◌, ◌≢◌}
+use mathlib.Core.Logic.{inl, inr, ◌≢◌}
 use mir.Facts.{or_yes}
 use borrow.Author.Tests.{eqb-true, eqb-false}
 use native.Mathlib.Decide.{dec_le}
 use Rattle.words.specs.Words.{words}
-use Rattle.rules.specs.Rows.{Kind, unknown, is_e, is_s, word, kind_at, shape_of, row_shaped}
+use Rattle.rules.specs.Rows.{Kind, unknown, is_e, is_s, word, kind_at, shape_of}
 use Rattle.rules.specs.Rows.{of_declare, of_assign, of_loop, of_write, of_branch, of_out, of_then, of_number, of_truth, of_name, of_two, of_choose, of_element, of_input}
-use Rattle.rules.specs.Scope.{lookup}
 use Rattle.rules.specs.Labels.{all_rules, all_inputs, Closed, Secret}
-use Rattle.rules.specs.Answers.{program_of, rows_of, sites_of, failing2, secret_in}
-use Rattle.rules.proofs.Basics.{or_left, or_right}
-use Rattle.rules.proofs.Places.{none_below}
-use Rattle.rules.proofs.Sites.{Each, each_map}
-use Rattle.rules.proofs.Formed.{program_formed}
-use Rattle.rules.proofs.Sited.{stmt_sites}
-use Rattle.rules.proofs.Labels.{RowsBelow, ClosedAt, closed, exactly, each_rules, rules_each}
+use Rattle.rules.specs.Answers.{rows_of, sites_of, secret_in}
+use Rattle.rules.proofs.Basics.{of_true, of_false, or_left, or_right}
+use Rattle.rules.proofs.Shaped.{labels_closed, labels_least}
+use Rattle.rules.proofs.Labels.{ClosedAt, each_rules, rules_each}
 use Rattle.rows.specs.Passed.{Passes}
-use Rattle.rows.proofs.Table.{rows_some, rows_few}
+use Rattle.rows.proofs.Table.{rows_few}
 use Rattle.rows.proofs.Formed.{Fields, fields, formed}
 use Rattle.rows.proofs.ByRows.{each_by_rows, rows_by_each}
 use Rattle.table.specs.declared.meaning.Meaning.{Meaning}
@@ -33,13 +30,7 @@ use Rattle.names.specs.Labels.{marked, asks, asked_row, RuleHolds, CanMark, mark
 use Rattle.names.proofs.NoteLaws.{passes_one, passes_two, passes_three}
 use Rattle.names.proofs.RuleLaws.{rule_at_row}
 
--- a truth value and its statement
-yes_of : (b : Bool) → b ≡ true → T b
-yes_of b e = rw e tt
-
-pub no_of : (b : Bool) → b ≡ false → T b → ⊥
-no_of b e h = rw e at h
-
+-- two tests that hold together are one
 same_truth : (x y : Bool) → (T x → T y) → (T y → T x) → x ≡ y
 same_truth true true f g = refl
 same_truth true false f g = absurd (f tt)
@@ -143,7 +134,7 @@ followed_start table decl secret = record {
   least = λ S holds w. w;
   none_made = λ e. (refl, λ r from below. absurd (omega arith));
   no_fewer = omega arith;
-  one_more = λ e. let z : ◌≡◌ {A = ℕ} 0 1 = cc in absurd (omega arith);
+  one_more = λ e. absurd (true≢false (sym e));
   long = refl;
 }
 
@@ -153,7 +144,7 @@ followed_none {table} {decl} {secret} {r} holds = record {
   least = λ S every w. w;
   none_made = λ e. (refl, λ q from below. let same : r ≡ q = omega arith in subst (RuleHolds table decl (marked secret)) same holds);
   no_fewer = omega arith;
-  one_more = λ e. let z : ◌≡◌ {A = ℕ} 0 1 = cc in absurd (omega arith);
+  one_more = λ e. absurd (true≢false (sym e));
   long = refl;
 }
 
@@ -170,8 +161,8 @@ followed_on {table} {decl} {s} {s'} {s''} {i} {j} {k} {made} {more} from upto on
   where
     none : (made more : Bool) → (made || more) ≡ false → Followed table decl s s' i j made → Followed table decl s' s'' j k more
         → (s'' ≡ s) × ((r : ℕ) → i ≤ r → r < k → RuleHolds table decl (marked s) r)
-    none true more e one two = let z : ◌≡◌ {A = ℕ} 0 1 = cc in absurd (omega arith)
-    none false true e one two = let z : ◌≡◌ {A = ℕ} 0 1 = cc in absurd (omega arith)
+    none true more e one two = absurd (true≢false e)
+    none false true e one two = absurd (true≢false e)
     none false false e one two =
         let (same, low) = one.none_made refl in
         let (same', high) = two.none_made refl in (
@@ -190,7 +181,7 @@ followed_on {table} {decl} {s} {s'} {s''} {i} {j} {k} {made} {more} from upto on
         → marks s (rows_of table) < marks s'' (rows_of table)
     some true more e one two = omega (arith, one.one_more refl, two.no_fewer)
     some false true e one two = omega (arith, one.no_fewer, two.one_more refl)
-    some false false e one two = let z : ◌≡◌ {A = ℕ} 0 1 = cc in absurd (omega arith)
+    some false false e one two = absurd (true≢false (sym e))
 
 -- A row whose rule asks for a mark.
 module _ {table decl secret : List ℕ} (can : CanMark table decl secret) (r : ℕ) (h : r < rows_of table) where
@@ -227,11 +218,11 @@ module _ {table decl secret : List ℕ} (can : CanMark table decl secret) (r : �
   -- a rule that asks for nothing holds
   pub followed_unasked : asks (marked secret) (meaning_at t r) (is_declare (meaning_at t d) && marked secret d) ≡ false
       → Followed table decl secret secret r (r + 1) false
-  followed_unasked e = followed_none (λ p. absurd (no_of _ e p))
+  followed_unasked e = followed_none (λ p. absurd (of_false _ e p))
 
   -- so does one whose row is marked already
   pub followed_marked : marked secret target ≡ true → Followed table decl secret secret r (r + 1) false
-  followed_marked e = followed_none (λ p. yes_of _ e)
+  followed_marked e = followed_none (λ p. of_true _ e)
 
   -- and otherwise the row is marked
   pub followed_made : asks (marked secret) (meaning_at t r) (is_declare (meaning_at t d) && marked secret d) ≡ true
@@ -242,7 +233,7 @@ module _ {table decl secret : List ℕ} (can : CanMark table decl secret) (r : �
       marks_more secret target (rows_of table) target_below room free in
       record {
         least = λ S every w q below p. go S (every r (omega arith) (omega arith)) w q below p (eqb q target) refl;
-        none_made = λ e. let z : ◌≡◌ {A = ℕ} 0 1 = cc in absurd (omega arith);
+        none_made = λ e. absurd (true≢false e);
         no_fewer = omega (arith, more);
         one_more = λ e. omega (arith, more);
         long = length-set secret target 1;
@@ -251,7 +242,7 @@ module _ {table decl secret : List ℕ} (can : CanMark table decl secret) (r : �
       go : (S : ℕ → Bool) → RuleHolds table decl S r → Within (rows_of table) (marked secret) S → (q : ℕ) → q < rows_of table
           → T (marked (set secret target 1) q) → (b : Bool) → eqb q target ≡ b → T (S q)
       go S holds w q below p true e =
-          subst (λ (q : ℕ). T (S q)) (sym (eqb-true q target e)) (holds (asks_more (marked secret) S w (yes_of _ asked)))
+          subst (λ (q : ℕ). T (S q)) (sym (eqb-true q target e)) (holds (asks_more (marked secret) S w (of_true _ asked)))
       go S holds w q below p false e = w q below (rw (marked_else secret target q (eqb-false q target e)) at p)
 
 -- A table that passes check 5, with the rows that bind names.
@@ -269,23 +260,6 @@ module _ (table decl : List ℕ) (ok : Passes 5 table) (declares : Declares tabl
       (rule_at_row table decl ok declares S r h).1
       (rows_by_each table (passes_three table ok) (ClosedAt S) (each_rules S (sites_of table) is) r h)
 
-  -- the rows of all sites, and of what is in scope there, are rows of the table
-  rows_below : Each (RowsBelow (rows_of table)) (sites_of table)
-  unfolding sites_of program_of rows_of failing2 lookup
-  rows_below =
-      let tree = program_formed (words table) (rows_some table (passes_one table ok))
-      (none_below (row_shaped (words table) (rows_of table)) (rows_of table) (passes_two table ok).1.0) in
-      each_map (sites_of table) (λ s h. h.rows) (stmt_sites (words table) (rows_of table) (program_of table) 1 [] tree (λ x. tt))
-
-  -- the secret rows are closed, and the least that are
-  secret_closed : Closed (all_inputs (sites_of table)) (all_rules (sites_of table)) (secret_in table)
-  unfolding secret_in
-  secret_closed = closed (rows_of table) (sites_of table) rows_below
-
-  secret_least : (r : ℕ) → T (secret_in table r) ↔ Secret (sites_of table) r
-  unfolding secret_in
-  secret_least = exactly (rows_of table) (sites_of table) rows_below
-
 -- marks are being made: every mark is in each set in which the rules hold
 pub record Marking (table decl secret : List ℕ) : Type 0 where
   pub can : CanMark table decl secret
@@ -295,7 +269,7 @@ pub record Marking (table decl secret : List ℕ) : Type 0 where
 pub marking_start : {table decl secret₀ secret : List ℕ} → CanMark table decl secret₀ → Cleared secret → Marking table decl secret
 marking_start can clear = record {
   can = record { passes = can.passes; declares = can.declares; long = clear.long };
-  least = λ S every r h p. absurd (no_of _ (clear.none r) p);
+  least = λ S every r h p. absurd (of_false _ (clear.none r) p);
 }
 
 module _ {table decl secret secret' : List ℕ} {made : Bool} (marking : Marking table decl secret)
@@ -319,6 +293,6 @@ module _ {table decl secret secret' : List ℕ} {made : Bool} (marking : Marking
         long = followed.long ∙ marking.can.long;
         are = λ r h. ap (λ (s : List ℕ). marked s r) same
             ∙ same_truth (marked secret r) (secret_in table r)
-            (marking.least (secret_in table) (closed_rules table decl ok declares (secret_in table) (secret_closed table decl ok declares)) r h)
-            (λ p. (secret_least table decl ok declares r).0 p (marked secret) is);
+            (marking.least (secret_in table) (closed_rules table decl ok declares (secret_in table) (labels_closed table ok.0 ok.1.0)) r h)
+            (λ p. (labels_least table ok.0 ok.1.0 r).0 p (marked secret) is);
       }

@@ -26,61 +26,30 @@ use Rattle.table.specs.Shapes.{as_kind}
 use Rattle.table.specs.Meaning.{type_number, meaning_of, meaning_at}
 use Rattle.names.specs.Naming.{is_declare}
 use Rattle.names.specs.Declares.{name_of, found_by, Declares}
-use Rattle.names.specs.Notes.{given_by, NotedTo, CanNote}
+use Rattle.names.specs.declared.notes.Given.{Given}
+use Rattle.names.specs.Notes.{given_with, given_by, NotedTo, CanNote}
 
--- What the binding row says, by its kind and words: the type of the name,
-type_of_lem : (k : Kind) (d a b c : ℕ) → type_number (type_k (known_of k d b c)) ≡ (given_by (meaning_of (as_kind k) a b c)).ty
-type_of_lem unknown d a b c = refl
-type_of_lem (is_e of_number) d a b c = refl
-type_of_lem (is_e of_truth) d a b c = refl
-type_of_lem (is_e of_name) d a b c = refl
-type_of_lem (is_e (of_two o)) d a b c = refl
-type_of_lem (is_e of_choose) d a b c = refl
-type_of_lem (is_e of_element) d a b c = refl
-type_of_lem (is_e of_input) d a b c = refl
-type_of_lem (is_s of_declare) d a b c = refl
-type_of_lem (is_s of_assign) d a b c = refl
-type_of_lem (is_s of_loop) d a b c = refl
-type_of_lem (is_s of_write) d a b c = refl
-type_of_lem (is_s of_branch) d a b c = refl
-type_of_lem (is_s of_out) d a b c = refl
-type_of_lem (is_s of_then) d a b c = refl
+-- what a name that stands for k says: the number of its type, its length and what it counts
+abbrev said : Known → Given
+said k = given_with (type_number (type_k k)) (length_k k) (count_k k)
 
--- its length,
-length_of : (k : Kind) (d a b c : ℕ) → length_k (known_of k d b c) ≡ (given_by (meaning_of (as_kind k) a b c)).length
-length_of unknown d a b c = refl
-length_of (is_e of_number) d a b c = refl
-length_of (is_e of_truth) d a b c = refl
-length_of (is_e of_name) d a b c = refl
-length_of (is_e (of_two o)) d a b c = refl
-length_of (is_e of_choose) d a b c = refl
-length_of (is_e of_element) d a b c = refl
-length_of (is_e of_input) d a b c = refl
-length_of (is_s of_declare) d a b c = refl
-length_of (is_s of_assign) d a b c = refl
-length_of (is_s of_loop) d a b c = refl
-length_of (is_s of_write) d a b c = refl
-length_of (is_s of_branch) d a b c = refl
-length_of (is_s of_out) d a b c = refl
-length_of (is_s of_then) d a b c = refl
-
--- what it counts,
-count_of : (k : Kind) (d a b c : ℕ) → count_k (known_of k d b c) ≡ (given_by (meaning_of (as_kind k) a b c)).count
-count_of unknown d a b c = refl
-count_of (is_e of_number) d a b c = refl
-count_of (is_e of_truth) d a b c = refl
-count_of (is_e of_name) d a b c = refl
-count_of (is_e (of_two o)) d a b c = refl
-count_of (is_e of_choose) d a b c = refl
-count_of (is_e of_element) d a b c = refl
-count_of (is_e of_input) d a b c = refl
-count_of (is_s of_declare) d a b c = refl
-count_of (is_s of_assign) d a b c = refl
-count_of (is_s of_loop) d a b c = refl
-count_of (is_s of_write) d a b c = refl
-count_of (is_s of_branch) d a b c = refl
-count_of (is_s of_out) d a b c = refl
-count_of (is_s of_then) d a b c = refl
+-- What the binding row says of the name, by its kind and words,
+said_of : (k : Kind) (d a b c : ℕ) → said (known_of k d b c) ≡ given_by (meaning_of (as_kind k) a b c)
+said_of unknown d a b c = refl
+said_of (is_e of_number) d a b c = refl
+said_of (is_e of_truth) d a b c = refl
+said_of (is_e of_name) d a b c = refl
+said_of (is_e (of_two o)) d a b c = refl
+said_of (is_e of_choose) d a b c = refl
+said_of (is_e of_element) d a b c = refl
+said_of (is_e of_input) d a b c = refl
+said_of (is_s of_declare) d a b c = refl
+said_of (is_s of_assign) d a b c = refl
+said_of (is_s of_loop) d a b c = refl
+said_of (is_s of_write) d a b c = refl
+said_of (is_s of_branch) d a b c = refl
+said_of (is_s of_out) d a b c = refl
+said_of (is_s of_then) d a b c = refl
 
 -- and whether it is declared.
 declared_of : (k : Kind) (d a b c : ℕ) → is_declared (some (known_of k d b c)) ≡ is_declare (meaning_of (as_kind k) a b c)
@@ -102,17 +71,9 @@ declared_of (is_s of_then) d a b c = refl
 
 -- the same of row d of a table's words
 module _ (t : List ℕ) (d : ℕ) where
-  pub type_known : type_number (type_k (known_at t d)) ≡ (given_by (meaning_at t d)).ty
+  pub said_known : said (known_at t d) ≡ given_by (meaning_at t d)
   unfolding known_at meaning_at
-  type_known = type_of_lem (kind_at t d) d (word t d 1) (word t d 2) (word t d 3)
-
-  pub length_known : length_k (known_at t d) ≡ (given_by (meaning_at t d)).length
-  unfolding known_at meaning_at
-  length_known = length_of (kind_at t d) d (word t d 1) (word t d 2) (word t d 3)
-
-  pub count_known : count_k (known_at t d) ≡ (given_by (meaning_at t d)).count
-  unfolding known_at meaning_at
-  count_known = count_of (kind_at t d) d (word t d 1) (word t d 2) (word t d 3)
+  said_known = said_of (kind_at t d) d (word t d 1) (word t d 2) (word t d 3)
 
   pub declared_known : is_declared (some (known_at t d)) ≡ is_declare (meaning_at t d)
   unfolding known_at meaning_at

@@ -1,5 +1,5 @@
 -- What the code knows of a row before it checks the row: what the row's name stands for, and what is noted of the expressions in it.
-use Rattle.std.proofs.Common.{ℕ, ◌<◌, ◌≡◌, refl, ◌∙◌, List, get_or}
+use Rattle.std.proofs.Common.{ℕ, ◌<◌, ◌≡◌, refl, ap, ◌∙◌, List, get_or}
 use Rattle.std.proofs.Math.Option.{Option, some}
 use Rattle.std.proofs.Math.Dec.{T}
 use Rattle.words.specs.Words.{words}
@@ -23,7 +23,7 @@ use Rattle.names.specs.Naming.{naming_of}
 use Rattle.names.specs.Declares.{Declares}
 use Rattle.names.specs.Notes.{given_by, CanNote}
 use Rattle.names.proofs.NamingLaws.{named_by, name_at}
-use Rattle.names.proofs.NoteLaws.{type_known, length_known, count_known, passes_three, named_at, stands_for_lem, noted-part}
+use Rattle.names.proofs.NoteLaws.{said_known, passes_three, named_at, stands_for_lem, noted-part}
 
 -- an operator in code means the operator that it was made from
 pub meant_op_lem : (o : Op) → meant_op (as_op o) ≡ o
@@ -72,9 +72,9 @@ module _ (table decl : List ℕ) (r : ℕ) (ok : Passes 5 table) (declares : Dec
   known_5 = record {
     passes = rw (node_law shapes r h) at (named_at table ok r h);
     stands = λ x e found. stands_for_lem table ok decl declares r h x (name_at shapes r h ∙ e) found;
-    ty = type_known t (get_or decl r 0);
-    length = length_known t (get_or decl r 0);
-    count = count_known t (get_or decl r 0);
+    ty = ap (λ (g : Given). g.ty) (said_known t (get_or decl r 0));
+    length = ap (λ (g : Given). g.length) (said_known t (get_or decl r 0));
+    count = ap (λ (g : Given). g.count) (said_known t (get_or decl r 0));
   }
 
 -- what is noted of the expressions in row r

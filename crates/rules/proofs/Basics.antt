@@ -20,6 +20,9 @@ pub of_true : (t : Bool) → t ≡ true → T t
 of_true true e = tt
 of_true false e = let z : ◌≡◌ {A = ℕ} 0 1 = cc in omega arith
 
+pub of_false : (t : Bool) → t ≡ false → T t → ⊥
+of_false t e h = rw e at h
+
 -- two tests hold together where both do
 pub and_both : (a b : Bool) → T a → T b → T (a && b)
 and_both true b p q = q

@@ -22,9 +22,10 @@ pub mod Expressions
 pub mod Cells
 pub mod Statements
 pub mod Accesses
--- circuits as words; and what follows when a table passes checks 1 to 8, and when it is accepted
+-- circuits as words; and what follows when a table passes checks 1 and 2, when it passes 1 to 8, and when it is accepted
 pub mod Circuits
 pub mod Bounds
+pub mod Shaped
 pub mod Passing
 pub mod Accepted
 -- shares, and demand 3

@@ -101,6 +101,11 @@ unfolding fault
 none_fault true p t = refl
 none_fault false p t = absurd t
 
+-- a failing test at 0 has 0 as its lowest place
+pub lowest_fault : (b : Bool) → b ≡ false → Lowest 0 (fault b 0)
+unfolding fault
+lowest_fault b e = rw e (record { one_of = inl refl; below_all = λ q i. omega arith })
+
 -- the same of a test at its own place
 in_fault_at : (ok : ℕ → Bool) (n p : ℕ) → In p (fault (ok n) n) ↔ ((p ≡ n) × T (not (ok p)))
 in_fault_at ok n p = (there, back)

@@ -22,7 +22,8 @@ use Rattle.rules.specs.Refusals.{Compiles, Evaluates, Reads, ReadsText}
 use Rattle.rules.specs.Cases.{AllHold, cases, listings, slips}
 use Rattle.rules.proofs.Refusals.{compiles, evaluates, reads_directly, reads_text}
 use Rattle.rules.proofs.Accepted.{clear, same_outs, counts_wires, never_refused}
-use Rattle.rules.proofs.Passing.{labels_closed, labels_least, accesses_below}
+use Rattle.rules.proofs.Shaped.{labels_closed, labels_least}
+use Rattle.rules.proofs.Passing.{accesses_below}
 use Rattle.rules.proofs.AsEvaluate.{lent_for, direct_as_evaluate}
 use Rattle.rules.proofs.Shares.{demand_three, same_outputs}
 use Rattle.rules.proofs.Memories.{compile_refused_leaves, evaluate_refused_leaves, direct_refused_leaves, text_refused_leaves}
@@ -84,10 +85,10 @@ module _ (table : List ℕ) {s : State} (yes : built table ≡ accepted s) where
 
   -- 4. The labels that are computed have the inputs and keep the rules, and they are the smallest such set.
   pub computed_closed : Closed (all_inputs (sites_of table)) (all_rules (sites_of table)) (secret_in table)
-  computed_closed = labels_closed table (clear table yes)
+  computed_closed = let (c1, (c2, rest)) = clear table yes in labels_closed table c1 c2
 
   pub computed_least : (r : ℕ) → T (secret_in table r) ↔ Secret (sites_of table) r
-  computed_least = labels_least table (clear table yes)
+  computed_least = let (c1, (c2, rest)) = clear table yes in labels_least table c1 c2
 
   -- Direct reading answers as compile and then evaluate would with enough circuit, tape and share memory, and puts out the
   -- same.
