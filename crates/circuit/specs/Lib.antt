@@ -1,4 +1,5 @@
 -- What the code's sorts, gates and tables mean in the rules' terms.
 pub mod Sorts
 pub mod Gates
+pub mod Slots
 pub mod Noted

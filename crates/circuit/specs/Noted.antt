@@ -1,63 +1,60 @@
--- What check 21 notes of the gates before a gate: the sorts of their wires, in an array, and the sort at which each input was
--- read, in a table of 128 (document 01, "Gates"). Only functions inside the desk cite it.
-use Rattle.std.specs.Prelude.{◌≡◌, ℕ, ◌+◌, ◌-◌, ◌*◌, ◌<◌, Bool, cond, not, ◌&&◌, ◌||◌, List, [], length, ◌==◌, nat_lt, slice_index}
+-- What check 21 notes of the gates before a gate: the sorts of their wires, and the sort at which each input was read, in a
+-- table of 128 (document 01, "Gates"). Only functions inside the desk cite it.
+use Rattle.std.specs.Prelude.{◌≡◌, ℕ, ◌<◌, Bool, cond, not, ◌&&◌, ◌||◌, ◌==◌, nat_lt, List, [], length, Option, None, Some, IfSome, Result, MatchResult, slice_get}
+use Rattle.arrayvec.specs.ArrayVec.{ArrayVec}
 use Rattle.words.specs.Words.{words}
-use Rattle.rules.specs.Sorts.{Sort, sort_number}
-use Rattle.rules.specs.Gates.{Gate, wires, clashes}
+use Rattle.std.proofs.Math.Option as maybe
+use Rattle.rules.specs.Sorts as rules
+use Rattle.rules.specs.Sorts.{arithmetic, boolean, bit, same}
+use Rattle.rules.specs.Gates as rules_gates
+use Rattle.rules.specs.Gates.{Gate, makes, wires, is_wire, clashes, keeps_rules}
 use Rattle.rules.specs.Answers.{gates_of, failing21}
 use Rattle.rules.specs.Refusals.{Lowest}
+use Rattle.circuit.specs.declared.sorts.Sort.{Sort}
 use Rattle.circuit.specs.declared.gates.Gate as code
-use Rattle.circuit.specs.declared.gates.Gate.TheVariants.{Both, Mux, Constant, Convert, Input, Out, Nothing}
-use Rattle.circuit.specs.declared.checks.Checked.{Checked}
-use Rattle.circuit.specs.declared.checks.Checked.TheVariants.{Kept, Broken}
+use Rattle.circuit.specs.declared.checks.BrokenGate.{BrokenGate}
+use Rattle.circuit.specs.Sorts.{meant_sort, as_sort}
+use Rattle.circuit.specs.Gates.{read_by}
+use Rattle.circuit.specs.Slots.{InTable, sort_at, other_than}
 
--- an array holds the number of each wire's sort
-abbrev pub SortsOf : List Gate → List ℕ → Type 0
-SortsOf gs sorts = (k : ℕ) → k < (wires gs).count → slice_index sorts k ≡ sort_number ((wires gs).sort k)
+-- the sorts of the wires of gates, in order
+pub record WiresNoted (gs : List Gate) (sorts : ArrayVec Sort) : Type 0 where
+  pub count : length sorts.items ≡ (wires gs).count
+  pub sorts_are : (k : ℕ) → k < (wires gs).count → slice_get sorts.items k ≡ Some (as_sort ((wires gs).sort k))
 
--- and there are w wires
-pub record WiresNoted (gs : List Gate) (sorts : List ℕ) (w : ℕ) : Type 0 where
-  pub count : w ≡ (wires gs).count
-  pub sorts_are : SortsOf gs sorts
+-- the table tells whether an input read at a sort clashes with an earlier gate
+abbrev pub InputsNoted : List Gate → List (Option Sort) → Type 0
+InputsNoted gs seen = (d n : ℕ) → InTable d n → (m : Sort) → clashes gs d n (meant_sort m) ≡ other_than (sort_at seen d n) m
 
--- the sort of wire x, or 0 where there are no more than x wires
-abbrev pub made_at : List ℕ → ℕ → ℕ → ℕ
-made_at sorts w x = cond (nat_lt x w) (slice_index sorts x) 0
+-- what the rules ask of the arms of a mux, of the wire of a convert, and of an input
+abbrev pub arms_alike : List Gate → ℕ → ℕ → Bool
+arms_alike gs a b = is_wire gs a boolean && is_wire gs b boolean || is_wire gs a bit && is_wire gs b bit
 
--- two arms are both of sort 2 or both of sort 3
-abbrev pub arms_alike : ℕ → ℕ → Bool
-arms_alike k m = k == 2 && m == 2 || k == 3 && m == 3
+abbrev pub converts_to : List Gate → ℕ → rules.Sort → Bool
+converts_to gs x m = is_wire gs x arithmetic && same m boolean || is_wire gs x boolean && same m arithmetic
 
--- the place of input n of desk d in the table
-abbrev pub slot_of : ℕ → ℕ → ℕ
-slot_of d n = 64 * (d - 1) + n
+abbrev pub may_read : List Gate → ℕ → ℕ → rules.Sort → Bool
+may_read gs d n m = (d == 1 || d == 2) && (nat_lt n 64 && ((same m arithmetic || same m bit) && not (clashes gs d n m)))
 
--- an input was read at a sort, and at another than m
-abbrev pub other_than : ℕ → ℕ → Bool
-other_than s m = not (s == 0) && not (s == m)
+-- a gate, if it is one and keeps the rules
+abbrev pub kept : List Gate → maybe.Option Gate → maybe.Option Gate
+kept gs maybe.none = maybe.none
+kept gs (maybe.some g) = cond (keeps_rules gs g) (maybe.some g) maybe.none
 
--- the table tells whether an input read at sort m clashes with an earlier gate
-abbrev pub InputsNoted : List Gate → List ℕ → Type 0
-InputsNoted gs seen = (d n : ℕ) → 0 < d → d < 3 → n < 64 → (m : Sort) → clashes gs d n m ≡ other_than (slice_index seen (slot_of d n)) (sort_number m)
+-- the sort of the wire that a gate makes, if it makes one
+abbrev pub sort_if : maybe.Option ℕ → rules.Sort → Option Sort
+sort_if maybe.none m = None
+sort_if (maybe.some new) m = Some (as_sort m)
 
--- both notes, of the gates gs
-pub record Noted (gs : List Gate) (sorts seen : List ℕ) (w : ℕ) : Type 0 where
-  pub wires_noted : WiresNoted gs sorts w
-  pub sorts_long : length sorts ≡ 3000
-  pub inputs_noted : InputsNoted gs seen
-  pub seen_long : length seen ≡ 128
+abbrev pub sort_made : List Gate → Gate → Option Sort
+sort_made gs g = sort_if (makes g) (rules_gates.sort_made (wires gs).sort g)
 
 -- an input that a gate reads has a place in the table
 abbrev pub InputIn : code.Gate → Type 0
-InputIn (Both o a b new) = Unit {0}
-InputIn (Mux g a b new) = Unit {0}
-InputIn (Constant v s new) = Unit {0}
-InputIn (Convert w s new) = Unit {0}
-InputIn (Input d n s new) = (0 < d) × ((d < 3) × (n < 64))
-InputIn (Out w) = Unit {0}
-InputIn Nothing = Unit {0}
+InputIn gate = IfSome (read_by gate) (λ read. InTable read.desk read.number)
 
 -- what check 21 finds of a circuit's bytes
-abbrev pub GatesChecked : List ℕ → List ℕ → Checked → Type 0
-GatesChecked circuit sorts (Kept w) = (failing21 (words circuit) ≡ []) × WiresNoted (gates_of circuit) sorts w
-GatesChecked circuit sorts (Broken p) = Lowest p (failing21 (words circuit))
+abbrev pub GatesChecked : List ℕ → ArrayVec Sort → Result (Unit {0}) BrokenGate → Type 0
+GatesChecked circuit sorts r =
+    MatchResult r (λ _. (failing21 (words circuit) ≡ []) × WiresNoted (gates_of circuit) sorts)
+    (λ broken. Lowest broken.gate (failing21 (words circuit)))

@@ -1,14 +1,19 @@
 // Checks 20 and 21: a circuit's length, and the rules that each gate keeps after those before it.
-ghost use Rattle.std.specs.Prelude.{◌≡◌, ◌+◌, ◌-◌, ◌*◌, ◌<◌, ◌≤◌, T, List, ◌∷◌, length, ◌==◌, slice_index, slice_set};
-ghost use Rattle.std.proofs.Math.Option.{some};
-ghost use Rattle.rules.specs.Sorts.{sort_numbered};
-ghost use Rattle.rules.specs.Gates.{both, mux, constant, convert, entry, with_sort, wires, keeps_rules, gate_keeps, circuit_fits};
+ghost use Rattle.std.specs.Prelude.{◌≡◌, ℕ, ◌+◌, ◌*◌, ◌&&◌, ◌∷◌, ◌<◌, ◌≤◌, T, List, Option, None, Some, length, slice_get, slice_set};
+ghost use Rattle.arrayvec.specs.ArrayVec.{array_vec_len};
+ghost use Rattle.words.specs.Words.{words};
+ghost use Rattle.rules.specs.Gates.{gate_at, is_wire, is_next, keeps_rules, circuit_fits};
 ghost use Rattle.rules.specs.Gates as rules;
-ghost use Rattle.circuit.specs.Gates.{meant_op, meant_gate};
-ghost use Rattle.circuit.specs.Noted.{made_at, arms_alike, slot_of, other_than, WiresNoted, InputsNoted, Noted, InputIn, GatesChecked};
+ghost use Rattle.circuit.specs.Sorts.{meant_sort};
+ghost use Rattle.circuit.specs.Gates.{meant, meant_gate};
+ghost use Rattle.circuit.specs.Noted.{WiresNoted, InputsNoted, InputIn, arms_alike, converts_to, may_read, kept, sort_made, GatesChecked};
 
-use crate::gates::{Gate, Op, Value, Wire, gate_at};
+use crate::gates::{Gate, Read, Wire, gate_at};
 use crate::sorts::Sort;
+use arrayvec::ArrayVec;
+
+// The sorts of a circuit's wires, in order: each gate makes one wire at most.
+pub type WireSorts = ArrayVec<Sort, 3000>;
 
 // Check 20: whole words, five to a gate, at most 15,000.
 pub fn fits(circuit: &[u8]) -> bool
@@ -17,115 +22,138 @@ pub fn fits(circuit: &[u8]) -> bool
     (circuit.len() % 4 == 0) & ((circuit.len() / 4 % 5 == 0) & (circuit.len() / 4 <= 15000))
 }
 
-// The sort of a wire, of the w wires so far; 0 for a wire that was not made.
-fn made(sorts: &[u32; 3000], w: usize, x: Wire) -> Sort
-    requires { w ≤ 3000 }
-    ensures { result.0 ≡ made_at sorts.now w x.0 }
+// What follows on wires and gates are functions and no methods: the sorts are of a type of the kit, and a gate's own file knows
+// nothing of checks.
+
+// The sort of a wire, of the wires so far.
+fn made(sorts: &WireSorts, wire: Wire) -> Option<Sort>
+    ensures { result ≡ slice_get sorts.now.items wire.0 }
 {
-    let k = x.0 as usize;
-    if k < w { Sort(sorts[k]) } else { Sort(0) }
+    sorts.get(wire.0 as usize).copied()
+}
+
+// A wire was made, with this sort.
+#[tactic(auto, unfolding(rules::specs::Gates::is_wire))]
+fn is_wire(sorts: &WireSorts, wire: Wire, sort: Sort) -> bool
+    ensures { (gs : List rules.Gate) → WiresNoted gs sorts.now → result ≡ is_wire gs wire.0 (meant_sort sort) }
+{
+    made(sorts, wire) == Some(sort)
+}
+
+// Two wires were made, with this sort.
+fn are_wires(sorts: &WireSorts, first: Wire, second: Wire, sort: Sort) -> bool
+    ensures { (gs : List rules.Gate) → WiresNoted gs sorts.now
+        → result ≡ (is_wire gs first.0 (meant_sort sort) && is_wire gs second.0 (meant_sort sort)) }
+{
+    is_wire(sorts, first, sort) && is_wire(sorts, second, sort)
 }
 
 // A new wire has the next number.
-fn is_next(w: usize, new: Wire) -> bool
-    ensures { result ≡ (new.0 == w) }
+#[tactic(auto, unfolding(rules::specs::Gates::is_next))]
+fn is_next(sorts: &WireSorts, new: Wire) -> bool
+    ensures { (gs : List rules.Gate) → WiresNoted gs sorts.now → result ≡ is_next gs new.0 }
 {
-    new.0 as usize == w
+    new.0 as usize == sorts.len()
 }
 
-// Each kind of gate keeps its line of the table of gates, after gates that made w wires of these sorts.
-
-fn both_keeps(sorts: &[u32; 3000], w: usize, op: Op, first: Wire, second: Wire, new: Wire) -> bool
-    requires { w ≤ 3000 }
-    ensures { (gs : List rules.Gate) → WiresNoted gs sorts.now w
-        → result ≡ keeps_rules gs (both (meant_op op) first.0 second.0 new.0) }
-{
-    let side = op.side();
-    made(sorts, w, first).is(side) & (made(sorts, w, second).is(side) & is_next(w, new))
+// The sorts at which inputs were read: of desk 1 and then of desk 2, each input below 64.
+#[derive(Debug, Drop)]
+pub struct InputSorts {
+    pub sorts: [Option<Sort>; 128],
+    ghost sized: { length sorts ≡ 128 },
 }
 
-// The arms of a mux are both of sort 2 or both of sort 3.
-fn arms_alike(first: Sort, second: Sort) -> bool
-    ensures { result ≡ arms_alike first.0 second.0 }
-{
-    (first.0 == Sort::BOOLEAN.0) & (second.0 == Sort::BOOLEAN.0)
-        | (first.0 == Sort::BIT.0) & (second.0 == Sort::BIT.0)
-}
+impl InputSorts {
+    ghost use Rattle.circuit.specs.Slots.{InTable, slot_of, sort_at, other_than};
 
-fn mux_keeps(
-    sorts: &[u32; 3000],
-    w: usize,
-    guard: Wire,
-    first: Wire,
-    second: Wire,
-    new: Wire,
-) -> bool
-    requires { w ≤ 3000 }
-    ensures { (gs : List rules.Gate) → WiresNoted gs sorts.now w
-        → result ≡ keeps_rules gs (mux guard.0 first.0 second.0 new.0) }
-{
-    made(sorts, w, guard).is(Sort::BIT)
-        & (arms_alike(made(sorts, w, first), made(sorts, w, second)) & is_next(w, new))
-}
-
-fn constant_keeps(w: usize, value: Value, sort: Sort, new: Wire) -> bool
-    ensures { (gs : List rules.Gate) → w ≡ (wires gs).count
-        → result ≡ gate_keeps gs (with_sort (sort_numbered sort.0) (λ m. constant value.0 m new.0)) }
-{
-    sort.is_sort() & (sort.holds(value.0) & is_next(w, new))
-}
-
-fn convert_keeps(sorts: &[u32; 3000], w: usize, wire: Wire, sort: Sort, new: Wire) -> bool
-    requires { w ≤ 3000 }
-    ensures { (gs : List rules.Gate) → WiresNoted gs sorts.now w
-        → result ≡ gate_keeps gs (with_sort (sort_numbered sort.0) (λ m. convert wire.0 m new.0)) }
-{
-    made(sorts, w, wire).converts_to(sort) & is_next(w, new)
-}
-
-// The place of a desk's input in the table of inputs read.
-fn slot(desk: u32, number: u32) -> usize
-    requires { (0 < desk) × ((desk < 3) × (number < 64)) }
-    ensures { result ≡ slot_of desk number }
-{
-    (64 * (desk - 1) + number) as usize
-}
-
-// An earlier gate reads the input at another sort. No input outside the table is read.
-pub fn clashes(seen: &[u32; 128], desk: u32, number: u32, sort: Sort) -> bool
-    ensures { 0 < desk → desk < 3 → number < 64
-        → result ≡ other_than (slice_index seen.now (slot_of desk number)) sort.0 }
-{
-    if desk < 1 {
-        return false;
+    // Before any input is read.
+    pub fn new() -> InputSorts
+        ensures { (desk number : ℕ) → sort_at result.sorts desk number ≡ None }
+    {
+        InputSorts { sorts: [None; 128] }
     }
-    if 2 < desk {
-        return false;
+
+    // The place of an input in the table.
+    fn slot(desk: u32, number: u32) -> usize
+        requires { InTable desk number }
+        ensures { result ≡ slot_of desk number }
+    {
+        (64 * (desk - 1) + number) as usize
     }
-    if 63 < number {
-        return false;
+
+    // The sort at which an input was read; no input outside the table is.
+    fn at(&self, desk: u32, number: u32) -> Option<Sort>
+        ensures { InTable desk number → result ≡ sort_at self.now.sorts desk number }
+    {
+        if matches!(desk, 1 | 2) && number < 64 {
+            self.sorts[InputSorts::slot(desk, number)]
+        } else {
+            None
+        }
     }
-    let k = slot(desk, number);
-    let s = seen[k];
-    !(s == 0) & !(s == sort.0)
+
+    // An earlier gate reads the input at another sort.
+    pub fn clashes(&self, read: Read) -> bool
+        ensures { InTable read.desk read.number
+            → result ≡ other_than (sort_at self.now.sorts read.desk read.number) read.sort }
+    {
+        self.at(read.desk, read.number)
+            .is_some_and(|other| other != read.sort)
+    }
+
+    // An input that is read is noted with its sort.
+    pub fn note(&mut self, read: Read)
+        requires { InTable read.desk read.number }
+        ensures { self.new.sorts ≡ slice_set self.old.sorts (slot_of read.desk read.number) (Some read.sort) }
+    {
+        let k = InputSorts::slot(read.desk, read.number);
+        self.sorts[k] = Some(read.sort);
+    }
+
+    // An input is of desk 1 or 2, its number below 64, arithmetic or a bit, and no earlier gate reads it at another sort.
+    fn allow(&self, read: Read) -> bool
+        ensures { (gs : List rules.Gate) → InputsNoted gs self.now.sorts
+            → result ≡ may_read gs read.desk read.number (meant_sort read.sort) }
+    {
+        matches!(read.desk, 1 | 2)
+            && read.number < 64
+            && read.sort != Sort::BOOLEAN
+            && !self.clashes(read)
+    }
+
+    // The input that a gate reads, if it keeps the rules, is noted.
+    #[tactic(auto, unfolding(rules::specs::Gates::keeps_rules, rules::specs::Gates::clashes))]
+    fn note_gate(&mut self, gate: Gate)
+        requires { InputIn gate }
+        ensures { (gs : List rules.Gate) → InputsNoted gs self.old.sorts → T (keeps_rules gs (meant gate))
+            → InputsNoted (meant gate ∷ gs) self.new.sorts }
+    {
+        if let Some(read) = gate.reads() {
+            self.note(read);
+        }
+    }
 }
 
-fn input_keeps(seen: &[u32; 128], w: usize, desk: u32, number: u32, sort: Sort, new: Wire) -> bool
-    ensures { (gs : List rules.Gate) → w ≡ (wires gs).count → InputsNoted gs seen.now
-        → result ≡ gate_keeps gs (with_sort (sort_numbered sort.0) (λ m. entry desk number m new.0)) }
+// The arms of a mux are both boolean or both bits.
+fn arms_alike(sorts: &WireSorts, first: Wire, second: Wire) -> bool
+    ensures { (gs : List rules.Gate) → WiresNoted gs sorts.now → result ≡ arms_alike gs first.0 second.0 }
 {
-    let other = clashes(seen, desk, number, sort);
-    let next = is_next(w, new);
-    ((desk == 1) | (desk == 2))
-        & ((number < 64)
-            & (((sort.0 == Sort::ARITHMETIC.0) | (sort.0 == Sort::BIT.0)) & (!other & next)))
+    are_wires(sorts, first, second, Sort::BOOLEAN) || are_wires(sorts, first, second, Sort::BIT)
 }
 
-// A gate keeps the rules, after gates that made w wires of these sorts and read these inputs.
-fn keeps(gate: Gate, sorts: &[u32; 3000], seen: &[u32; 128], w: usize) -> bool
-    requires { w ≤ 3000 }
-    ensures { (gs : List rules.Gate) → Noted gs sorts.now seen.now w
-        → result ≡ gate_keeps gs (meant_gate gate) }
+// A convert gate goes from the sort of its wire.
+#[tactic(auto, unfolding(rules::specs::Gates::is_wire))]
+fn converts(sorts: &WireSorts, wire: Wire, to: Sort) -> bool
+    ensures { (gs : List rules.Gate) → WiresNoted gs sorts.now → result ≡ converts_to gs wire.0 (meant_sort to) }
+{
+    made(sorts, wire).is_some_and(|from| from.converts_to(to))
+}
+
+// A gate keeps its line of the table of gates, after gates that made wires of these sorts and read these inputs.
+#[tactic(auto, unfolding(rules::specs::Gates::keeps_rules))]
+fn keeps(gate: Gate, sorts: &WireSorts, inputs: &InputSorts) -> bool
+    ensures { (gs : List rules.Gate) → WiresNoted gs sorts.now → InputsNoted gs inputs.now.sorts
+        → result ≡ keeps_rules gs (meant gate) }
 {
     match gate {
         Gate::Both {
@@ -133,98 +161,77 @@ fn keeps(gate: Gate, sorts: &[u32; 3000], seen: &[u32; 128], w: usize) -> bool
             first,
             second,
             new,
-        } => both_keeps(sorts, w, op, first, second, new),
+        } => are_wires(sorts, first, second, op.side()) && is_next(sorts, new),
         Gate::Mux {
             guard,
             first,
             second,
             new,
-        } => mux_keeps(sorts, w, guard, first, second, new),
-        Gate::Constant { value, sort, new } => constant_keeps(w, value, sort, new),
-        Gate::Convert { wire, sort, new } => convert_keeps(sorts, w, wire, sort, new),
-        Gate::Input {
-            desk,
-            number,
-            sort,
-            new,
-        } => input_keeps(seen, w, desk, number, sort, new),
-        Gate::Out { wire } => (wire.0 as usize) < w,
-        Gate::Nothing => false,
+        } => {
+            is_wire(sorts, guard, Sort::BIT)
+                && arms_alike(sorts, first, second)
+                && is_next(sorts, new)
+        }
+        Gate::Constant { value, sort, new } => sort.holds(value.0) && is_next(sorts, new),
+        Gate::Convert { wire, sort, new } => converts(sorts, wire, sort) && is_next(sorts, new),
+        Gate::Input { read, new } => inputs.allow(read) && is_next(sorts, new),
+        Gate::Out { wire } => made(sorts, wire).is_some(),
     }
 }
 
-// A new wire is noted with its sort; the number of wires after it.
-fn note_wire(sorts: &mut [u32; 3000], w: usize, sort: Sort) -> usize
-    requires { w < 3000 }
-    ensures value { result ≡ w + 1 }
-    ensures sorts_after { sorts.new ≡ slice_set sorts.old w sort.0 }
+// Gate i of a circuit, if it keeps the rules after gates that made wires of these sorts and read these inputs.
+fn kept_gate(circuit: &[u8], i: usize, sorts: &WireSorts, inputs: &InputSorts) -> Option<Gate>
+    requires { 20 * i + 20 ≤ length circuit.now }
+    ensures { (gs : List rules.Gate) → WiresNoted gs sorts.now → InputsNoted gs inputs.now.sorts
+        → meant_gate result ≡ kept gs (gate_at (words circuit.now) i) }
 {
-    sorts[w] = sort.0;
-    w + 1
+    gate_at(circuit, i).filter(|gate| keeps(*gate, sorts, inputs))
 }
 
-// An input that is read is noted with its sort.
-pub fn note_input(seen: &mut [u32; 128], desk: u32, number: u32, sort: Sort)
-    requires { (0 < desk) × ((desk < 3) × (number < 64)) }
-    ensures { seen.new ≡ slice_set seen.old (slot_of desk number) sort.0 }
-{
-    let k = slot(desk, number);
-    seen[k] = sort.0;
-}
-
-// What a gate that keeps the rules makes and reads is noted; the number of wires after it.
-fn note(gate: Gate, sorts: &mut [u32; 3000], seen: &mut [u32; 128], w: usize) -> usize
-    requires { (w < 3000) × InputIn gate }
-    ensures { (gs : List rules.Gate) (g : rules.Gate) → meant_gate gate ≡ some g → T (keeps_rules gs g)
-        → Noted gs sorts.old seen.old w → Noted (g ∷ gs) sorts.new seen.new result }
+// The sort of the wire that a gate makes.
+#[tactic(auto, unfolding(rules::specs::Gates::keeps_rules, rules::specs::Gates::is_wire, rules::specs::Gates::sort_made))]
+fn sort_made(gate: Gate, sorts: &WireSorts) -> Option<Sort>
+    ensures { (gs : List rules.Gate) → WiresNoted gs sorts.now → T (keeps_rules gs (meant gate))
+        → result ≡ sort_made gs (meant gate) }
 {
     match gate {
-        Gate::Both { op, .. } => note_wire(sorts, w, op.result()),
-        Gate::Mux { first, .. } => {
-            let sort = made(sorts, w, first);
-            note_wire(sorts, w, sort)
-        }
-        Gate::Constant { sort, .. } => note_wire(sorts, w, sort),
-        Gate::Convert { sort, .. } => note_wire(sorts, w, sort),
-        Gate::Input {
-            desk,
-            number,
-            sort,
-            ..
-        } => {
-            note_input(seen, desk, number, sort);
-            note_wire(sorts, w, sort)
-        }
-        Gate::Out { .. } => w,
-        Gate::Nothing => w,
+        Gate::Both { op, .. } => Some(op.result()),
+        Gate::Mux { first, .. } => made(sorts, first),
+        Gate::Constant { sort, .. } | Gate::Convert { sort, .. } => Some(sort),
+        Gate::Input { read, .. } => Some(read.sort),
+        Gate::Out { .. } => None,
     }
 }
 
-#[derive(Clone, Copy)]
-pub enum Checked {
-    // All gates keep the rules, and make so many wires.
-    Kept { wires: usize },
-    // The lowest gate that breaks them.
-    Broken { gate: u32 },
+// The wire that a gate makes, if it keeps the rules, is noted.
+#[tactic(auto, using(crate::proofs::CheckLaws::wire_after, crate::proofs::CheckLaws::no_wire_after))]
+fn note_wire(gate: Gate, sorts: &mut WireSorts)
+    requires { array_vec_len sorts.old < 3000 }
+    ensures { (gs : List rules.Gate) → WiresNoted gs sorts.old → T (keeps_rules gs (meant gate))
+        → WiresNoted (meant gate ∷ gs) sorts.new }
+{
+    if let Some(sort) = sort_made(gate, sorts) {
+        sorts.push(sort);
+    }
 }
 
-// Check 21, of a circuit that passes check 20. The sorts of its wires are noted in an array of 3,000 (a reference to an array
-// does not tell its length to a proof, so the contract does).
-pub fn check_gates(circuit: &[u8], sorts: &mut [u32; 3000]) -> Checked
-    requires { T (circuit_fits circuit.now) × (length sorts.old ≡ 3000) }
+// The lowest gate that breaks the rules.
+#[derive(Clone, Copy, Debug, PartialEq, Eq)]
+pub struct BrokenGate {
+    pub gate: u32,
+}
+
+// Check 21, of a circuit that passes check 20. The sorts of its wires are noted, in place of what was noted before.
+pub fn check_gates(circuit: &[u8], sorts: &mut WireSorts) -> Result<(), BrokenGate>
+    requires { T (circuit_fits circuit.now) }
     ensures { GatesChecked circuit.now sorts.new result }
 {
-    let n = circuit.len() / 20;
-    let mut seen = [0u32; 128];
-    let mut wires: usize = 0;
-    let mut i: usize = 0;
-    while i < n {
-        let gate = gate_at(circuit, i);
-        if !keeps(gate, sorts, &seen, wires) {
-            return Checked::Broken { gate: i as u32 };
-        }
-        wires = note(gate, sorts, &mut seen, wires);
-        i += 1;
+    sorts.clear();
+    let mut inputs = InputSorts::new();
+    for i in 0..circuit.len() / 20 {
+        let gate = kept_gate(circuit, i, sorts, &inputs).ok_or(BrokenGate { gate: i as u32 })?;
+        note_wire(gate, sorts);
+        inputs.note_gate(gate);
     }
-    Checked::Kept { wires: wires }
+    Ok(())
 }

@@ -2,28 +2,36 @@
 ghost use Rattle.std.specs.Prelude.{◌≡◌, ◌+◌, ◌*◌, ◌≤◌, length, slice_index_or};
 ghost use Rattle.words.specs.Words.{words};
 ghost use Rattle.rules.specs.Sorts.{side_at, result_at, applied};
-ghost use Rattle.rules.specs.Gates.{no_gate, of_both, of_constant, of_convert, of_output, gate_kinds, gate_of, gate_at};
-ghost use Rattle.circuit.specs.Sorts.{as_sort};
-ghost use Rattle.circuit.specs.Gates.{meant_op, meant_gate, makes_wire, read_by};
+ghost use Rattle.rules.specs.Gates.{no_gate, gate_kinds, gate_of, gate_at};
+ghost use Rattle.circuit.specs.Gates.{meant_gate};
 
 use crate::sorts::Sort;
 
 // The number of a wire.
-#[derive(Clone, Copy)]
+#[derive(Clone, Copy, Debug, PartialEq, Eq)]
 pub struct Wire(pub u32);
 
 // A public value.
-#[derive(Clone, Copy)]
+#[derive(Clone, Copy, Debug, PartialEq, Eq)]
 pub struct Value(pub u32);
 
 // The two-sided operators.
-#[derive(Clone, Copy)]
+#[derive(Clone, Copy, Debug, PartialEq, Eq)]
 pub enum Op {
     Add,
     Greater,
 }
 
-#[derive(Clone, Copy)]
+// An input that is read at a sort. (Its desk stays a number: a gate has whatever number stands there, and check 21 refuses
+// all but 1 and 2.)
+#[derive(Clone, Copy, Debug, PartialEq, Eq)]
+pub struct Read {
+    pub desk: u32,
+    pub number: u32,
+    pub sort: Sort,
+}
+
+#[derive(Clone, Copy, Debug, PartialEq, Eq)]
 pub enum Gate {
     Both {
         op: Op,
@@ -48,26 +56,18 @@ pub enum Gate {
         new: Wire,
     },
     Input {
-        desk: u32,
-        number: u32,
-        sort: Sort,
+        read: Read,
         new: Wire,
     },
     Out {
         wire: Wire,
     },
-    // Five words that are no gate.
-    Nothing,
-}
-
-// The input that a gate reads.
-#[derive(Clone, Copy)]
-pub enum Read {
-    Input { desk: u32, number: u32, sort: Sort },
-    Nothing,
 }
 
 impl Op {
+    ghost use Rattle.circuit.specs.Sorts.{as_sort};
+    ghost use Rattle.circuit.specs.Gates.{meant_op};
+
     // The sort of its two sides.
     pub fn side(self) -> Sort
         ensures { result ≡ as_sort (side_at (meant_op self)) }
@@ -89,152 +89,88 @@ impl Op {
     }
 
     // What it gives of two values.
+    #[tactic(auto, unfolding(rules::specs::Sorts::applied))]
     pub fn applied(self, a: u32, b: u32) -> u32
         ensures { result ≡ applied (meant_op self) a b }
     {
         match self {
-            Op::Add => std::num::wrapping_add_u32(a, b),
-            Op::Greater => greater(a, b),
+            Op::Add => a.wrapping_add(b),
+            Op::Greater => u32::from(b < a),
         }
     }
 }
 
-fn greater(a: u32, b: u32) -> u32
-    ensures { result ≡ applied (meant_op Op.Greater) a b }
-{
-    if b < a { 1 } else { 0 }
-}
-
 impl Gate {
+    ghost use Rattle.circuit.specs.Gates.{makes_wire, read_by};
+
     // It makes a wire; an out makes none.
     pub fn makes_wire(self) -> bool
         ensures { result ≡ makes_wire self }
     {
-        match self {
-            Gate::Both { .. } => true,
-            Gate::Mux { .. } => true,
-            Gate::Constant { .. } => true,
-            Gate::Convert { .. } => true,
-            Gate::Input { .. } => true,
-            Gate::Out { .. } => false,
-            Gate::Nothing => false,
-        }
+        !matches!(self, Gate::Out { .. })
     }
 
     // The input that it reads.
-    pub fn reads(self) -> Read
+    pub fn reads(self) -> Option<Read>
         ensures { result ≡ read_by self }
     {
         match self {
-            Gate::Both { .. } => Read::Nothing,
-            Gate::Mux { .. } => Read::Nothing,
-            Gate::Constant { .. } => Read::Nothing,
-            Gate::Convert { .. } => Read::Nothing,
-            Gate::Input {
-                desk,
-                number,
-                sort,
-                ..
-            } => Read::Input {
-                desk: desk,
-                number: number,
-                sort: sort,
-            },
-            Gate::Out { .. } => Read::Nothing,
-            Gate::Nothing => Read::Nothing,
+            Gate::Input { read, .. } => Some(read),
+            _ => None,
         }
     }
 }
 
-// The gates that have unlisted words, which are 0; any other words are no gate.
-
-fn both(op: Op, a: u32, b: u32, c: u32, d: u32) -> Gate
-    ensures { meant_gate result ≡ gate_of (of_both (meant_op op)) a b c d }
+// The gate of a kind and four words more. The words that a kind does not list are 0, and its sort is a sort.
+#[tactic(auto, unfolding(rules::specs::Gates::gate_of, rules::specs::Gates::gate_kinds))]
+fn gate_of(kind: u32, a: u32, b: u32, c: u32, d: u32) -> Option<Gate>
+    ensures { meant_gate result ≡ gate_of (slice_index_or gate_kinds kind no_gate) a b c d }
 {
-    if d == 0 {
-        Gate::Both {
-            op: op,
+    let gate = match (kind, b, c, d) {
+        (1, _, _, 0) => Gate::Both {
+            op: Op::Add,
             first: Wire(a),
             second: Wire(b),
             new: Wire(c),
-        }
-    } else {
-        Gate::Nothing
-    }
-}
-
-fn constant(a: u32, b: u32, c: u32, d: u32) -> Gate
-    ensures { meant_gate result ≡ gate_of of_constant a b c d }
-{
-    if d == 0 {
-        Gate::Constant {
-            value: Value(a),
-            sort: Sort(b),
-            new: Wire(c),
-        }
-    } else {
-        Gate::Nothing
-    }
-}
-
-fn convert(a: u32, b: u32, c: u32, d: u32) -> Gate
-    ensures { meant_gate result ≡ gate_of of_convert a b c d }
-{
-    if d == 0 {
-        Gate::Convert {
-            wire: Wire(a),
-            sort: Sort(b),
-            new: Wire(c),
-        }
-    } else {
-        Gate::Nothing
-    }
-}
-
-fn out(a: u32, b: u32, c: u32, d: u32) -> Gate
-    ensures { meant_gate result ≡ gate_of of_output a b c d }
-{
-    if b != 0 {
-        return Gate::Nothing;
-    }
-    if c != 0 {
-        return Gate::Nothing;
-    }
-    if d == 0 {
-        Gate::Out { wire: Wire(a) }
-    } else {
-        Gate::Nothing
-    }
-}
-
-// The gate of a kind and four words more.
-fn gate_of(kind: u32, a: u32, b: u32, c: u32, d: u32) -> Gate
-    ensures { meant_gate result ≡ gate_of (slice_index_or gate_kinds kind no_gate) a b c d }
-{
-    match kind {
-        1 => both(Op::Add, a, b, c, d),
-        2 => Gate::Mux {
+        },
+        (2, _, _, _) => Gate::Mux {
             guard: Wire(a),
             first: Wire(b),
             second: Wire(c),
             new: Wire(d),
         },
-        3 => both(Op::Greater, a, b, c, d),
-        4 => constant(a, b, c, d),
-        5 => convert(a, b, c, d),
-        6 => Gate::Input {
-            desk: a,
-            number: b,
-            sort: Sort(c),
+        (3, _, _, 0) => Gate::Both {
+            op: Op::Greater,
+            first: Wire(a),
+            second: Wire(b),
+            new: Wire(c),
+        },
+        (4, _, _, 0) => Gate::Constant {
+            value: Value(a),
+            sort: Sort::try_from(b).ok()?,
+            new: Wire(c),
+        },
+        (5, _, _, 0) => Gate::Convert {
+            wire: Wire(a),
+            sort: Sort::try_from(b).ok()?,
+            new: Wire(c),
+        },
+        (6, _, _, _) => Gate::Input {
+            read: Read {
+                desk: a,
+                number: b,
+                sort: Sort::try_from(c).ok()?,
+            },
             new: Wire(d),
         },
-        7 => out(a, b, c, d),
-        _ => Gate::Nothing,
-    }
+        (7, 0, 0, 0) => Gate::Out { wire: Wire(a) },
+        _ => return None,
+    };
+    Some(gate)
 }
 
 // Gate i of a circuit.
-pub fn gate_at(circuit: &[u8], i: usize) -> Gate
+pub fn gate_at(circuit: &[u8], i: usize) -> Option<Gate>
     requires { 20 * i + 20 ≤ length circuit.now }
     ensures { meant_gate result ≡ gate_at (words circuit.now) i }
 {

@@ -1,55 +1,83 @@
 // The sorts of wires, and which conversion is needed between them.
-ghost use Rattle.std.specs.Prelude.{◌≡◌, not, ◌==◌};
-ghost use Rattle.rules.specs.Sorts as rules;
+ghost use Rattle.std.specs.Prelude.{◌≡◌, not};
 ghost use Rattle.rules.specs.Sorts.{same, fits_sort};
-ghost use Rattle.circuit.specs.Sorts.{as_sort, meant_sort, is_sort, converts};
 
-#[derive(Clone, Copy)]
-pub struct Sort(pub u32);
+// The sort of a wire. (The default stands only in the unused places of an `ArrayVec`.)
+#[derive(Clone, Copy, Debug, Default, PartialEq, Eq)]
+pub enum Sort {
+    // A uint, shared by a sum.
+    #[default]
+    Arithmetic,
+    // A uint, shared bit by bit.
+    Boolean,
+    // A bool, shared as one bit.
+    Bit,
+}
+
+// A number that is no sort's.
+#[derive(Clone, Copy, Debug, PartialEq, Eq)]
+pub struct UnknownSort;
+
+impl TryFrom<u32> for Sort {
+    ghost use Rattle.circuit.specs.Sorts.{Numbered};
+
+    type Error = UnknownSort;
+
+    ghost try_from_gives = { Numbered };
+
+    #[tactic(auto, unfolding(rules::specs::Sorts::sort_numbered))]
+    fn try_from(number: u32) -> Result<Self, UnknownSort> {
+        match number {
+            1 => Ok(Sort::ARITHMETIC),
+            2 => Ok(Sort::BOOLEAN),
+            3 => Ok(Sort::BIT),
+            _ => Err(UnknownSort),
+        }
+    }
+}
 
 impl Sort {
-    // A uint, shared by a sum.
-    pub const ARITHMETIC: Sort = Sort(1);
+    // The sorts by name, a form that document 01 names.
+    pub const ARITHMETIC: Sort = Sort::Arithmetic;
 
-    // A uint, shared bit by bit.
-    pub const BOOLEAN: Sort = Sort(2);
+    pub const BOOLEAN: Sort = Sort::Boolean;
 
-    // A bool, shared as one bit.
-    pub const BIT: Sort = Sort(3);
+    pub const BIT: Sort = Sort::Bit;
 
-    // Its number is that of a sort.
-    pub fn is_sort(self) -> bool
-        ensures { result ≡ is_sort self.0 }
+    ghost use Rattle.circuit.specs.Sorts.{sort_from, meant_sort, converts};
+
+    // The sort of a number; any other number is read as boolean.
+    #[tactic(auto, unfolding(rules::specs::Sorts::sort_numbered, crate::specs::Sorts::sort_from))]
+    pub fn or_boolean(number: u32) -> Sort
+        ensures { meant_sort result ≡ sort_from number }
     {
-        (0 < self.0) & (self.0 < 4)
-    }
-
-    // It is the other sort.
-    pub fn is(self, other: Sort) -> bool
-        ensures { result ≡ (self.0 == other.0) }
-    {
-        self.0 == other.0
+        Sort::try_from(number).unwrap_or(Sort::BOOLEAN)
     }
 
     // Bringing a wire of this sort to another sort takes a convert gate; to its own, nothing. (For compiling.)
     pub fn needs_convert(self, to: Sort) -> bool
-        ensures { (k m : rules.Sort) → self ≡ as_sort k → to ≡ as_sort m → result ≡ not (same k m) }
+        ensures { result ≡ not (same (meant_sort self) (meant_sort to)) }
     {
-        !(self.0 == to.0)
+        self != to
     }
 
     // A convert gate goes from arithmetic to boolean, or back.
     pub fn converts_to(self, to: Sort) -> bool
-        ensures { result ≡ converts self.0 to.0 }
+        ensures { result ≡ converts self to }
     {
-        (self.0 == Sort::ARITHMETIC.0) & (to.0 == Sort::BOOLEAN.0)
-            | (self.0 == Sort::BOOLEAN.0) & (to.0 == Sort::ARITHMETIC.0)
+        matches!(
+            (self, to),
+            (Sort::Arithmetic, Sort::Boolean) | (Sort::Boolean, Sort::Arithmetic)
+        )
     }
 
     // A word may stand on a wire of this sort: a bool is 0 or 1.
-    pub fn holds(self, v: u32) -> bool
-        ensures { result ≡ fits_sort (meant_sort self) v }
+    pub fn holds(self, word: u32) -> bool
+        ensures { result ≡ fits_sort (meant_sort self) word }
     {
-        if self.0 == Sort::BIT.0 { v <= 1 } else { true }
+        match self {
+            Sort::Bit => word <= 1,
+            _ => true,
+        }
     }
 }
