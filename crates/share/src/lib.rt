@@ -11,17 +11,19 @@ use circuit::sorts::Sort;
 pub fn share_one(sort: Sort, t: u32) -> u32
     ensures { result ≡ share_one (meant_sort sort) t }
 {
-    if sort.0 == Sort::BIT.0 { t % 2 } else { t }
+    match sort {
+        Sort::Bit => t % 2,
+        _ => t,
+    }
 }
 
 // Desk two gets the value minus the tape word, wrapped, or the value xor what desk one gets.
 pub fn share_two(sort: Sort, v: u32, t: u32) -> u32
     ensures { result ≡ share_two (meant_sort sort) v t }
 {
-    if sort.0 == Sort::ARITHMETIC.0 {
-        std::num::wrapping_sub_u32(v, t)
-    } else {
-        v ^ share_one(sort, t)
+    match sort {
+        Sort::Arithmetic => v.wrapping_sub(t),
+        _ => v ^ share_one(sort, t),
     }
 }
 
@@ -29,9 +31,8 @@ pub fn share_two(sort: Sort, v: u32, t: u32) -> u32
 pub fn join(sort: Sort, a: u32, b: u32) -> u32
     ensures { result ≡ join (meant_sort sort) a b }
 {
-    if sort.0 == Sort::ARITHMETIC.0 {
-        std::num::wrapping_add_u32(a, b)
-    } else {
-        a ^ b
+    match sort {
+        Sort::Arithmetic => a.wrapping_add(b),
+        _ => a ^ b,
     }
 }

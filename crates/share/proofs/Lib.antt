@@ -1,2 +1,0 @@
--- The sharing rule by the number of a sort.
-pub mod Laws
