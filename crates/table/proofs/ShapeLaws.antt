@@ -1,11 +1,15 @@
 -- The code's table of shapes is the rules'.
-use Prim.Native.Nat.{ℕ, zero, suc, ◌<◌}
+use Prim.Native.Nat.{ℕ, zero, suc, ◌≤◌, ◌<◌}
 use mathlib.Core.Path.{◌≡◌, refl, sym, ap, ◌∙◌}
 use mathlib.Core.List.{List, [], ◌∷◌, map}
+use lib.Dec.{ltb}
 use lib.ListN.{get_or, length, get_or-map, get_or-eq_default}
+use borrow.Author.Tests.{ltb-true, ltb-false}
+use denote.Bor.{Bor}
 use native.Mathlib.Omega.{arith}
-use Rattle.rules.specs.Rows as rules
-use Rattle.rules.specs.Rows.{kinds}
+use Rattle.std.specs.Prelude.{Option, Some, None, is_some, IfSome, unwrap_or}
+use Rattle.std.specs.Option.{option_copied}
+use Rattle.rules.specs.Rows.{kinds, unknown}
 use Rattle.table.specs.declared.shapes.Shape.{Shape}
 use Rattle.table.specs.Shapes.{as_shape}
 
@@ -15,12 +19,14 @@ get_or_inside [] k d e below = absurd (omega arith)
 get_or_inside (x ∷ xs) zero d e below = refl
 get_or_inside (x ∷ xs) (suc k) d e below = get_or_inside xs k d e (omega arith)
 
--- a line of the table is the line of its kind,
-pub line_of : (k : ℕ) (d : Shape) → k < 23 → get_or (map as_shape kinds) k d ≡ as_shape (get_or kinds k rules.unknown)
+-- what is found in the table at a number is the shape of its kind, and past the table there is no kind
+pub shape_found :
+    (found : Option (Bor Shape)) (k : ℕ) → is_some found ≡ ltb k 23 → IfSome found (λ x. x.now ≡ get_or (map as_shape kinds) k x.now)
+    → unwrap_or (option_copied found) (as_shape unknown) ≡ as_shape (get_or kinds k unknown)
 unfolding kinds
-line_of k d below = get_or_inside (map as_shape kinds) k d (as_shape rules.unknown) below ∙ get_or-map as_shape kinds k rules.unknown
-
--- and past the table there is no kind
-pub no_line : (k : ℕ) → (k < 23 → ⊥) → as_shape rules.unknown ≡ as_shape (get_or kinds k rules.unknown)
-unfolding kinds
-no_line k past = sym (ap as_shape (get_or-eq_default kinds rules.unknown {n = k} (omega arith)))
+shape_found (Some x) k some line =
+    let below : k < 23 = ltb-true k 23 (sym some) in
+    line ∙ (get_or_inside (map as_shape kinds) k x.now (as_shape unknown) below ∙ get_or-map as_shape kinds k unknown)
+shape_found None k none line =
+    let past : 23 ≤ k = ltb-false k 23 (sym none) in
+    sym (ap as_shape (get_or-eq_default kinds unknown {n = k} past))

@@ -1,18 +1,22 @@
 -- The table of shapes, as code holds it (document 01, "Rows").
-use Rattle.std.specs.Prelude.{Bool, true, false}
+use Rattle.std.specs.Prelude.{ℕ, List, Option, Some, None}
 use Rattle.rules.specs.Rows as rules
-use Rattle.rules.specs.Rows.{unknown, is_e, is_s, of_number, of_truth, of_name, of_two, of_choose, of_element, of_input, shape_of}
+use Rattle.rules.specs.Rows.{Row, word, kind_at, unknown, is_e, is_s, of_number, of_truth, of_name, of_two, of_choose, of_element, of_input, shape_of}
 use Rattle.rules.specs.Rows.{of_declare, of_assign, of_loop, of_write, of_branch, of_out, of_then}
-use Rattle.circuit.specs.declared.gates.Op as code
+use Rattle.circuit.specs.declared.gates.Op as operator
+use Rattle.table.specs.declared.row.Row as code
 use Rattle.table.specs.declared.shapes.Kind.{Kind}
 use Rattle.table.specs.declared.shapes.Kind.TheVariants.{Unknown, Number, Truth, Name, Both, Cond, Element, Input, Declare, Assign, For, Write, If, Out, Then}
-use Rattle.table.specs.declared.shapes.Sort as sort
-use Rattle.table.specs.declared.shapes.Field as field
+use Rattle.table.specs.declared.shapes.Sort.{Sort}
+use Rattle.table.specs.declared.shapes.Sort.TheVariants.{Expr, Stmt}
+use Rattle.table.specs.declared.shapes.Field.{Field}
+use Rattle.table.specs.declared.shapes.Field.TheVariants.{Within, Child}
 use Rattle.table.specs.declared.shapes.Shape.{Shape}
+use Rattle.table.specs.declared.shapes.RowWords.{RowWords}
 
-abbrev pub as_op : rules.Op → code.Op
-as_op rules.add = code.TheVariants.Add
-as_op rules.gt = code.TheVariants.Greater
+abbrev pub as_op : rules.Op → operator.Op
+as_op rules.add = operator.TheVariants.Add
+as_op rules.gt = operator.TheVariants.Greater
 
 -- a kind in code
 abbrev pub as_kind : rules.Kind → Kind
@@ -33,32 +37,31 @@ as_kind (is_s of_out) = Out
 as_kind (is_s of_then) = Then
 
 -- what a row of a kind is
-abbrev pub as_sort : rules.Kind → sort.Sort
-as_sort unknown = sort.TheVariants.Nothing
-as_sort (is_e k) = sort.TheVariants.Expr
-as_sort (is_s k) = sort.TheVariants.Stmt
-
-abbrev pub is_expr_sort : sort.Sort → Bool
-is_expr_sort sort.TheVariants.Nothing = false
-is_expr_sort sort.TheVariants.Expr = true
-is_expr_sort sort.TheVariants.Stmt = false
-
-abbrev pub is_stmt_sort : sort.Sort → Bool
-is_stmt_sort sort.TheVariants.Nothing = false
-is_stmt_sort sort.TheVariants.Expr = false
-is_stmt_sort sort.TheVariants.Stmt = true
+abbrev pub as_sort : rules.Kind → Option Sort
+as_sort unknown = None
+as_sort (is_e k) = Some Expr
+as_sort (is_s k) = Some Stmt
 
 -- a field in code, and the field that it means
-abbrev pub as_field : rules.Field → field.Field
-as_field (rules.within low high) = field.TheVariants.Within low high
-as_field rules.expr = field.TheVariants.Expr
-as_field rules.stmt = field.TheVariants.Stmt
+abbrev pub as_field : rules.Field → Field
+as_field (rules.within low high) = Within low high
+as_field rules.expr = Child Expr
+as_field rules.stmt = Child Stmt
 
-abbrev pub meant_field : field.Field → rules.Field
-meant_field (field.TheVariants.Within low high) = rules.within low high
-meant_field field.TheVariants.Expr = rules.expr
-meant_field field.TheVariants.Stmt = rules.stmt
+abbrev pub meant_field : Field → rules.Field
+meant_field (Within low high) = rules.within low high
+meant_field (Child Expr) = rules.expr
+meant_field (Child Stmt) = rules.stmt
 
--- the line of a kind
+-- the row that a word names, where its field holds one
+abbrev pub child_in : Field → ℕ → Option code.Row
+child_in (Within low high) w = None
+child_in (Child s) w = Some (record { 0 = w })
+
+-- the shape of a kind
 abbrev pub as_shape : rules.Kind → Shape
-as_shape k = record { 0 = as_kind k; 1 = as_sort k; 2 = as_field (shape_of k).a; 3 = as_field (shape_of k).b; 4 = as_field (shape_of k).c }
+as_shape k = record { kind = as_kind k; sort = as_sort k; a = as_field (shape_of k).a; b = as_field (shape_of k).b; c = as_field (shape_of k).c }
+
+-- the words of row r of a table's words, with the shape of its kind
+abbrev pub row_words : List ℕ → Row → RowWords
+row_words t r = record { shape = as_shape (kind_at t r); a = word t r 1; b = word t r 2; c = word t r 3 }

@@ -1,39 +1,34 @@
 // What a row means: its kind, with the words that the kind lists.
-ghost use Rattle.std.specs.Prelude.{◌≡◌, eqb};
+ghost use Rattle.std.specs.Prelude.{◌≡◌};
 ghost use Rattle.words.specs.Words.{words};
 ghost use Rattle.rules.specs.Tree.{type_of};
 ghost use Rattle.rows.specs.Passed.{In};
 ghost use Rattle.table.specs.Meaning.{as_type, meaning_of, meaning_at};
 
-use crate::row::{Row, word_at};
-use crate::shapes::{Kind, shape_of};
+use crate::row::Row;
+use crate::shapes::{Kind, row_words};
 use circuit::gates::{Op, Value};
 
-// A type, by the paper's number.
-#[derive(Clone, Copy)]
-pub struct Ty(pub u32);
+// A type, 0 and 1 in a table.
+#[derive(Clone, Copy, Debug, Default, PartialEq, Eq)]
+pub enum Ty {
+    #[default]
+    Uint,
+    Bool,
+}
 
-impl Ty {
-    pub const UINT: Ty = Ty(0);
+// The type that a word of a table stands for.
+impl From<u32> for Ty {
+    ghost from_gives = { λ word ty. ty ≡ as_type (type_of word) };
 
-    pub const BOOL: Ty = Ty(1);
-
-    // The type that a word of a table stands for.
-    pub fn of(word: u32) -> Ty
-        ensures { result ≡ as_type (type_of word) }
-    {
-        if word == 0 { Ty::UINT } else { Ty::BOOL }
-    }
-
-    // It is the other type.
-    pub fn is(self, other: Ty) -> bool
-        ensures { result ≡ eqb self.0 other.0 }
-    {
-        self.0 == other.0
+    #[tactic(auto, unfolding(rules::specs::Tree::type_of))]
+    fn from(word: u32) -> Ty {
+        if word == 0 { Ty::Uint } else { Ty::Bool }
     }
 }
 
-#[derive(Clone, Copy)]
+// A row of no known kind means `Nothing`: every row has a meaning, and each match takes the fifteen in one place.
+#[derive(Clone, Copy, Debug, PartialEq, Eq)]
 pub enum Meaning {
     Number {
         value: Value,
@@ -95,7 +90,6 @@ pub enum Meaning {
         first: Row,
         second: Row,
     },
-    // A row of no known kind.
     Nothing,
 }
 
@@ -109,7 +103,7 @@ fn meaning_of(kind: Kind, a: u32, b: u32, c: u32) -> Meaning
         Kind::Truth => Meaning::Truth { value: Value(a) },
         Kind::Name => Meaning::Name { name: a },
         Kind::Both { op } => Meaning::Both {
-            op: op,
+            op,
             first: Row(a),
             second: Row(b),
         },
@@ -123,13 +117,13 @@ fn meaning_of(kind: Kind, a: u32, b: u32, c: u32) -> Meaning
             index: Row(b),
         },
         Kind::Input => Meaning::Input {
-            ty: Ty::of(a),
+            ty: Ty::from(a),
             desk: b,
             number: c,
         },
         Kind::Declare => Meaning::Declare {
             name: a,
-            ty: Ty::of(b),
+            ty: Ty::from(b),
             length: c,
         },
         Kind::Assign => Meaning::Assign {
@@ -161,16 +155,11 @@ fn meaning_of(kind: Kind, a: u32, b: u32, c: u32) -> Meaning
 }
 
 // The meaning of a row, whatever its words are.
+#[tactic(auto, unfolding(crate::specs::Meaning::meaning_at))]
 pub fn meaning_at(table: &[u8], row: Row) -> Meaning
     requires { In table.now row.0 }
     ensures { result ≡ meaning_at (words table.now) row.0 }
 {
-    let shape = shape_of(word_at(table, row, 0));
-    let kind = shape.0;
-    meaning_of(
-        kind,
-        word_at(table, row, 1),
-        word_at(table, row, 2),
-        word_at(table, row, 3),
-    )
+    let read = row_words(table, row);
+    meaning_of(read.shape.kind, read.a, read.b, read.c)
 }

@@ -6,7 +6,7 @@ ghost use Rattle.rules.specs.Answers.{rows_of};
 ghost use Rattle.rows.specs.Passed.{In, Passes};
 
 // The number of a row.
-#[derive(Clone, Copy)]
+#[derive(Clone, Copy, Debug, Default, PartialEq, Eq, PartialOrd, Ord)]
 pub struct Row(pub u32);
 
 // How many rows a table has that passes check 1.
@@ -18,6 +18,7 @@ pub fn row_count(table: &[u8]) -> u32
 }
 
 // Word k of a row: its kind, a, b or c.
+#[tactic(auto, unfolding(rules::specs::Rows::word))]
 pub fn word_at(table: &[u8], row: Row, k: usize) -> u32
     requires { In table.now row.0 × (k < 4) }
     ensures { result ≡ word (words table.now) row.0 k }

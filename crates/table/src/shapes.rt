@@ -1,13 +1,16 @@
-// The shape of each kind of row: one line of a fixed table.
+// The shape of each kind of row, a fixed table with a line for each kind; and the words of a row, read with its shape.
 ghost use Rattle.std.specs.Prelude.{◌≡◌, get_or};
+ghost use Rattle.words.specs.Words.{words};
 ghost use Rattle.rules.specs.Rows as rules;
 ghost use Rattle.rules.specs.Rows.{kinds};
-ghost use Rattle.table.specs.Shapes.{as_shape, is_expr_sort, is_stmt_sort};
+ghost use Rattle.rows.specs.Passed.{In};
+ghost use Rattle.table.specs.Shapes.{as_shape, child_in, row_words};
 
+use crate::row::{Row, word_at};
 use circuit::gates::Op;
 
-// The kinds of rows.
-#[derive(Clone, Copy)]
+// The kinds of rows. A number that is no kind is `Unknown`, as in the rules: so every row has a kind and a shape.
+#[derive(Clone, Copy, Debug, PartialEq, Eq)]
 pub enum Kind {
     Unknown,
     Number,
@@ -26,25 +29,38 @@ pub enum Kind {
     Then,
 }
 
-// What a row of a kind is.
-#[derive(Clone, Copy)]
+// What a row is, where its kind is known.
+#[derive(Clone, Copy, Debug, PartialEq, Eq)]
 pub enum Sort {
-    Nothing,
     Expr,
     Stmt,
 }
 
 // What a word of a row holds: a number of a range, or the row of an expression or of a statement.
-#[derive(Clone, Copy)]
+#[derive(Clone, Copy, Debug, PartialEq, Eq)]
 pub enum Field {
     Within { low: u32, high: u32 },
-    Expr,
-    Stmt,
+    Child(Sort),
 }
 
 // A kind, what its rows are, and the fields a, b and c.
-#[derive(Clone, Copy)]
-pub struct Shape(pub Kind, pub Sort, pub Field, pub Field, pub Field);
+#[derive(Clone, Copy, Debug, PartialEq, Eq)]
+pub struct Shape {
+    pub kind: Kind,
+    pub sort: Option<Sort>,
+    pub a: Field,
+    pub b: Field,
+    pub c: Field,
+}
+
+// The words a, b and c of a row, with the shape of its kind.
+#[derive(Clone, Copy, Debug, PartialEq, Eq)]
+pub struct RowWords {
+    pub shape: Shape,
+    pub a: u32,
+    pub b: u32,
+    pub c: u32,
+}
 
 const ANY: Field = Field::Within {
     low: 0,
@@ -65,23 +81,42 @@ const NUMBER: Field = Field::Within { low: 0, high: 63 };
 
 const LENGTH: Field = Field::Within { low: 0, high: 64 };
 
-const EXPR: Field = Field::Expr;
+const EXPR: Field = Field::Child(Sort::Expr);
 
-const STMT: Field = Field::Stmt;
+const STMT: Field = Field::Child(Sort::Stmt);
 
-const UNKNOWN: Shape = Shape(Kind::Unknown, Sort::Nothing, NEVER, NEVER, NEVER);
+const UNKNOWN: Shape = Shape {
+    kind: Kind::Unknown,
+    sort: None,
+    a: NEVER,
+    b: NEVER,
+    c: NEVER,
+};
 
-// The line of each kind by its number, from 0 on.
+// The shape of a kind that is an expression or a statement.
+macro_rules! shape {
+    ($sort:ident, $kind:expr, $a:expr, $b:expr, $c:expr) => {
+        Shape {
+            kind: $kind,
+            sort: Some(Sort::$sort),
+            a: $a,
+            b: $b,
+            c: $c,
+        }
+    };
+}
+
+// The shape of each kind by its number, from 0 on. Document 01 ("The forms we use") names this form: a constant table.
 const SHAPES: [Shape; 23] = [
     UNKNOWN,
-    Shape(Kind::Number, Sort::Expr, ANY, ZERO, ZERO),
-    Shape(Kind::Truth, Sort::Expr, BIT, ZERO, ZERO),
-    Shape(Kind::Name, Sort::Expr, NAME, ZERO, ZERO),
-    Shape(Kind::Both { op: Op::Add }, Sort::Expr, EXPR, EXPR, ZERO),
-    Shape(Kind::Cond, Sort::Expr, EXPR, EXPR, EXPR),
-    Shape(Kind::Both { op: Op::Greater }, Sort::Expr, EXPR, EXPR, ZERO),
-    Shape(Kind::Element, Sort::Expr, NAME, EXPR, ZERO),
-    Shape(Kind::Input, Sort::Expr, BIT, DESK, NUMBER),
+    shape!(Expr, Kind::Number, ANY, ZERO, ZERO),
+    shape!(Expr, Kind::Truth, BIT, ZERO, ZERO),
+    shape!(Expr, Kind::Name, NAME, ZERO, ZERO),
+    shape!(Expr, Kind::Both { op: Op::Add }, EXPR, EXPR, ZERO),
+    shape!(Expr, Kind::Cond, EXPR, EXPR, EXPR),
+    shape!(Expr, Kind::Both { op: Op::Greater }, EXPR, EXPR, ZERO),
+    shape!(Expr, Kind::Element, NAME, EXPR, ZERO),
+    shape!(Expr, Kind::Input, BIT, DESK, NUMBER),
     UNKNOWN,
     UNKNOWN,
     UNKNOWN,
@@ -89,45 +124,44 @@ const SHAPES: [Shape; 23] = [
     UNKNOWN,
     UNKNOWN,
     UNKNOWN,
-    Shape(Kind::Declare, Sort::Stmt, NAME, BIT, LENGTH),
-    Shape(Kind::Assign, Sort::Stmt, NAME, EXPR, ZERO),
-    Shape(Kind::For, Sort::Stmt, NAME, STMT, ANY),
-    Shape(Kind::Write, Sort::Stmt, NAME, EXPR, EXPR),
-    Shape(Kind::If, Sort::Stmt, EXPR, STMT, STMT),
-    Shape(Kind::Out, Sort::Stmt, EXPR, ZERO, ZERO),
-    Shape(Kind::Then, Sort::Stmt, STMT, STMT, ZERO),
+    shape!(Stmt, Kind::Declare, NAME, BIT, LENGTH),
+    shape!(Stmt, Kind::Assign, NAME, EXPR, ZERO),
+    shape!(Stmt, Kind::For, NAME, STMT, ANY),
+    shape!(Stmt, Kind::Write, NAME, EXPR, EXPR),
+    shape!(Stmt, Kind::If, EXPR, STMT, STMT),
+    shape!(Stmt, Kind::Out, EXPR, ZERO, ZERO),
+    shape!(Stmt, Kind::Then, STMT, STMT, ZERO),
 ];
 
-// The line of a kind's number; a number past the table is no kind.
-pub fn shape_of(kind: u32) -> Shape
-    ensures { result ≡ as_shape (get_or kinds kind rules.unknown) }
-{
-    if kind < 23 {
-        let k = kind as usize;
-        SHAPES[k]
-    } else {
-        UNKNOWN
+impl Field {
+    // The row that a word names, where the field holds one.
+    pub fn child(self, word: u32) -> Option<Row>
+        ensures { result ≡ child_in self word }
+    {
+        match self {
+            Field::Within { .. } => None,
+            Field::Child(_) => Some(Row(word)),
+        }
     }
 }
 
-impl Sort {
-    pub fn is_expr(self) -> bool
-        ensures { result ≡ is_expr_sort self }
-    {
-        match self {
-            Sort::Nothing => false,
-            Sort::Expr => true,
-            Sort::Stmt => false,
-        }
-    }
+// The shape of a kind's number; a number past the table is no kind.
+pub fn shape_of(kind: u32) -> Shape
+    ensures { result ≡ as_shape (get_or kinds kind rules.unknown) }
+{
+    SHAPES.get(kind as usize).copied().unwrap_or(UNKNOWN)
+}
 
-    pub fn is_stmt(self) -> bool
-        ensures { result ≡ is_stmt_sort self }
-    {
-        match self {
-            Sort::Nothing => false,
-            Sort::Expr => false,
-            Sort::Stmt => true,
-        }
+// What is read of a row.
+#[tactic(auto, unfolding(rules::specs::Rows::kind_at))]
+pub fn row_words(table: &[u8], row: Row) -> RowWords
+    requires { In table.now row.0 }
+    ensures { result ≡ row_words (words table.now) row.0 }
+{
+    RowWords {
+        shape: shape_of(word_at(table, row, 0)),
+        a: word_at(table, row, 1),
+        b: word_at(table, row, 2),
+        c: word_at(table, row, 3),
     }
 }

@@ -1,12 +1,8 @@
--- `shapes::shape_of` is the rules' line of a kind: the constant table is theirs, line by line.
-use Rattle.std.proofs.Common.{arith}
+-- `shapes::shape_of` is the rules' shape of a kind: the constant table is theirs, line by line.
 use Rattle.rules.specs.Rows.{kinds}
-use Rattle.table.proofs.ShapeLaws.{line_of, no_line}
+use Rattle.table.proofs.ShapeLaws.{shape_found}
 use Rattle.table.proofs.shapes.shape_of.Goals as goal
 
-pub returns-then-kind-lt23 : goal.returns-then-kind-lt23
+pub returns : goal.returns
 unfolding kinds
-returns-then-kind-lt23 c = line_of c.args.kind _ c.if-kind-lt23.true
-
-pub returns-else-kind-lt23 : goal.returns-else-kind-lt23
-returns-else-kind-lt23 c = no_line c.args.kind (λ h. omega arith)
+returns c = rw (c.unwrap_or.ensures, c.copied.ensures) (shape_found c.get.result c.args.kind c.get.ensures.lookup.0 c.get.ensures.lookup.1)
