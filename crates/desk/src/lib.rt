@@ -1,15 +1,15 @@
 // The desk's C interface, thin: each entry turns an operation's answer into the paper's numbers (include/desk.h).
 #![tactic(auto)]
 
-ghost use Rattle.std.specs.Prelude.{◌≡◌};
+ghost use Rattle.std.specs.Prelude.{◌≡◌, Err};
 ghost use Rattle.evaluate.specs.Promise.{answered, lent_with, Promise};
 ghost use Rattle.desk.specs.Numbers.{as_numbers};
 
-use evaluate::{Answer, Refusal};
+use evaluate::{Accepted, Refusal};
 
-// Number, place, and how many wires and outputs; zero counts where refused.
+// Number, place, and how many wires and outputs; zero counts where refused. (Numbers, as C reads them.)
 #[repr(C)]
-#[derive(Clone, Copy)]
+#[derive(Clone, Copy, Debug, PartialEq, Eq)]
 pub struct Evaluated {
     pub number: u32,
     pub place: u32,
@@ -17,47 +17,45 @@ pub struct Evaluated {
     pub outputs: u32,
 }
 
-fn refused(number: u32, place: u32) -> Evaluated
-    ensures { as_numbers result ≡ record { number = number; place = place; wires = 0; outputs = 0 } }
-{
-    Evaluated {
-        number: number,
-        place: place,
-        wires: 0,
-        outputs: 0,
+impl From<Refusal> for Evaluated {
+    ghost from_gives = { λ why numbers. as_numbers numbers ≡ answered (Err why) };
+
+    // The paper's number and place of each refusal.
+    fn from(why: Refusal) -> Evaluated {
+        let (number, place) = match why {
+            Refusal::CircuitLength => (20, 0),
+            Refusal::GateBreaksRules { gate } => (21, gate),
+            Refusal::InputMissing { gate } => (22, gate),
+            Refusal::InputNoBool { gate } => (23, gate),
+            Refusal::TapeShort => (24, 0),
+            Refusal::MemoryShort => (25, 0),
+        };
+        Evaluated {
+            number,
+            place,
+            wires: 0,
+            outputs: 0,
+        }
     }
 }
 
-// The paper's number and place of each refusal.
-fn refusal(why: Refusal) -> Evaluated
-    ensures { as_numbers result ≡ answered (Answer.Refused why) }
-{
-    match why {
-        Refusal::CircuitLength => refused(20, 0),
-        Refusal::GateBreaksRules { gate } => refused(21, gate),
-        Refusal::InputMissing { gate } => refused(22, gate),
-        Refusal::InputNoBool { gate } => refused(23, gate),
-        Refusal::TapeShort => refused(24, 0),
-        Refusal::MemoryShort => refused(25, 0),
+impl From<Result<Accepted, Refusal>> for Evaluated {
+    ghost from_gives = { λ answer numbers. as_numbers numbers ≡ answered answer };
+
+    fn from(answer: Result<Accepted, Refusal>) -> Evaluated {
+        match answer {
+            Ok(Accepted { wires, outputs }) => Evaluated {
+                number: 0,
+                place: 0,
+                wires,
+                outputs,
+            },
+            Err(why) => why.into(),
+        }
     }
 }
 
-// The paper's numbers of an answer.
-fn numbers(answer: Answer) -> Evaluated
-    ensures { as_numbers result ≡ answered answer }
-{
-    match answer {
-        Answer::Accepted { wires, outputs } => Evaluated {
-            number: 0,
-            place: 0,
-            wires: wires,
-            outputs: outputs,
-        },
-        Answer::Refused { why } => refusal(why),
-    }
-}
-
-// Evaluate a circuit on two desks' inputs and a tape.
+// Evaluate a circuit on two desks' inputs and a tape. (What is lent comes one by one, as C lends it.)
 #[unsafe(no_mangle)]
 pub extern "C" fn desk_evaluate(
     circuit: &[u8],
@@ -73,5 +71,5 @@ pub extern "C" fn desk_evaluate(
         shares1.old shares2.old outputs.old)
         (as_numbers result) shares1.new shares2.new outputs.new }
 {
-    numbers(evaluate::evaluate(circuit, inputs1, inputs2, tape, shares1, shares2, outputs))
+    evaluate::evaluate(circuit, inputs1, inputs2, tape, shares1, shares2, outputs).into()
 }

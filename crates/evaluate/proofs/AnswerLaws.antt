@@ -7,6 +7,7 @@ use lib.Dec.{T, leb}
 use lib.ListN.{length, take, length-reverse}
 use native.Mathlib.Omega.{arith}
 use borrow.Author.Tests.{lt-leb, le-leb}
+use Rattle.std.specs.Prelude.{Ok, Err}
 use Rattle.words.specs.Words.{words}
 use Rattle.words.proofs.Words.{words-length}
 use Rattle.rules.specs.Places.{refused, accepted, fault}
@@ -14,25 +15,32 @@ use Rattle.rules.specs.Gates.{Gate, wires, gate_count, circuit_fits}
 use Rattle.rules.specs.Plain.{inputs}
 use Rattle.rules.specs.Shares.{tape_for, shared}
 use Rattle.rules.specs.Answers.{Lent, evaluation, evaluate, evaluate_answer, leaves_one, leaves_two, leaves_outs}
-use Rattle.rules.specs.Answers.{gates_of, out_count, FitInputs, failing20, failing21, failing22, failing23, failing24, failing25}
+use Rattle.rules.specs.Answers.{gates_of, out_count, FitInputs, failing20, failing21, failing24, failing25}
 use Rattle.rules.specs.Refusals.{Lowest, Clear, evaluate_checks, Evaluates}
+use Rattle.rules.proofs.Basics.{of_true}
 use Rattle.rules.proofs.Places.{none_fault, lowest_fault}
 use Rattle.rules.proofs.Refusals.{evaluates}
 use Rattle.rules.proofs.Memories.{passed_25}
 use Rattle.rules.proofs.Circuits.{wires_and_outs, outs_of_shares}
 use Rattle.rules.proofs.Earlier.{gates_all}
 use Rattle.circuit.proofs.PassLaws.{gates_in_lem, gates_at_most}
-use Rattle.evaluate.specs.Promise.{Promise}
-use Rattle.evaluate.specs.Held.{memories, GatesPass, Ready, Done}
+use Rattle.circuit.specs.declared.sorts.Sort.{Sort}
+use Rattle.circuit.specs.Noted.{WiresNoted}
+use Rattle.evaluate.specs.declared.Refusal.{Refusal}
+use Rattle.evaluate.specs.declared.Refusal.TheVariants.{CircuitLength, GateBreaksRules, InputMissing, InputNoBool, TapeShort, MemoryShort}
+use Rattle.evaluate.specs.declared.desks.Run.{Run}
+use Rattle.evaluate.specs.InputChecks.{InputsRefused}
+use Rattle.evaluate.specs.Held.{Contents, Ready, Done}
+use Rattle.evaluate.specs.Promise.{Promise, answered, refusal_number, refusal_place}
 
 -- a refusal by a line of the table answers its number and place, and leaves every memory as it was
-abbrev pub Refuses : Lent → ℕ → ℕ → Type 0
-Refuses l k p = Promise l (record { number = k; place = p; wires = 0; outputs = 0 }) l.shares1 l.shares2 l.outputs
+abbrev pub Refuses : Lent → Refusal → Type 0
+Refuses l why = Promise l (answered (Err why)) l.shares1 l.shares2 l.outputs
 
-promise_refused : (l : Lent) {k p : ℕ} → Evaluates l (refused k p) → Refuses l k p
+promise_refused : (l : Lent) (why : Refusal) → Evaluates l (refused (refusal_number why) (refusal_place why)) → Refuses l why
 unfolding evaluate_answer leaves_one leaves_two leaves_outs
-promise_refused l {k} {p} case =
-    let is : evaluate l ≡ refused k p = (evaluates l (refused k p)).0 case in
+promise_refused l why case =
+    let is : evaluate l ≡ refused (refusal_number why) (refusal_place why) = (evaluates l _).0 case in
     record { answer_is = rw is; one_is = rw is; two_is = rw is; outs_are = rw is }
 
 module _ (l : Lent) where
@@ -74,43 +82,63 @@ module _ (l : Lent) where
   pass_25 e = rw (room_is, e)
 
   -- the first two refusals
-  pub promise_20 : circuit_fits l.circuit ≡ false → Refuses l 20 0
-  promise_20 e = promise_refused l (Evaluates.with_20 (refuse_20 e))
+  pub promise_20 : circuit_fits l.circuit ≡ false → Refuses l CircuitLength
+  promise_20 e = promise_refused l CircuitLength (Evaluates.with_20 (refuse_20 e))
 
-  pub promise_21 : {p : ℕ} → T (circuit_fits l.circuit) → Lowest p (failing21 (words l.circuit)) → Refuses l 21 p
-  promise_21 fits low = promise_refused l (Evaluates.with_21 (pass_20 fits, tt) low)
+  pub promise_21 : {p : ℕ} → circuit_fits l.circuit ≡ true → Lowest p (failing21 (words l.circuit)) → Refuses l (GateBreaksRules p)
+  promise_21 fits low = promise_refused l (GateBreaksRules _) (Evaluates.with_21 (pass_20 (of_true _ fits), tt) low)
 
--- Once the gates pass.
-module _ (l : Lent) (sorts : List ℕ) (w : ℕ) (pass : GatesPass l.circuit sorts w) where
-  -- each gate makes a wire or an output
+-- A run reads what was lent, and the sorts.
+pub record Reads (run : Run) (l : Lent) (sorts : List Sort) : Type 0 where
+  pub circuit_is : run.circuit.now ≡ l.circuit
+  pub sorts_are : run.sorts.now ≡ sorts
+  pub one_is : run.inputs.one.now ≡ l.inputs1
+  pub two_is : run.inputs.two.now ≡ l.inputs2
+  pub tape_is : run.tape.now ≡ l.tape
+
+-- the memories as they are lent
+abbrev pub lent_contents : Lent → Contents
+lent_contents l = record { one = l.shares1; two = l.shares2; outs = l.outputs }
+
+-- The gates pass, and make w wires, which are noted with their sorts.
+pub record GatesPass (l : Lent) (sorts : List Sort) (w : ℕ) : Type 0 where
+  pub fits : T (circuit_fits l.circuit)
+  pub keeps : failing21 (words l.circuit) ≡ []
+  pub noted : WiresNoted (gates_of l.circuit) (record { items = sorts })
+  pub all_wires : w ≡ length sorts
+
+module _ {l : Lent} {sorts : List Sort} {w : ℕ} (gates : GatesPass l sorts w) where
+  pub promise_inputs : (why : Refusal) → InputsRefused l.circuit l.inputs1 l.inputs2 why → Refuses l why
+  promise_inputs (InputMissing p) low = promise_refused l (InputMissing p) (Evaluates.with_22 (pass_20 l gates.fits, (gates.keeps, tt)) low)
+  promise_inputs (InputNoBool p) (no_22, low) =
+      promise_refused l (InputNoBool p) (Evaluates.with_23 (pass_20 l gates.fits, (gates.keeps, (no_22, tt))) low)
+  promise_inputs _ h = absurd h
+
+  -- there are at most 3,000, and each makes a wire or an output
+  pub few_gates : length l.circuit / 20 ≤ 3000
+  few_gates = gates_at_most l.circuit gates.fits
+
+  wires_are : w ≡ (wires (gs l)).count
+  wires_are = gates.all_wires ∙ gates.noted.count
+
   pub wires_or_outs : length l.circuit / 20 ≡ w + out_count (gs l)
   unfolding failing21 gates_of
   wires_or_outs =
-      sym (gates_in_lem l.circuit) ∙ sym (gates_all (words l.circuit) (gate_count (words l.circuit)) pass.1.0)
-      ∙ wires_and_outs (gs l) ∙ ap (λ k. k + out_count (gs l)) (sym pass.1.1.count)
-
-  pub few_gates : length l.circuit / 20 ≤ 3000
-  few_gates = gates_at_most l.circuit pass.0
-
-  pub promise_22 : {p : ℕ} → Lowest p (failing22 (words l.circuit) (words l.inputs1) (words l.inputs2)) → Refuses l 22 p
-  promise_22 low = promise_refused l (Evaluates.with_22 (pass_20 l pass.0, (pass.1.0, tt)) low)
-
-  pub promise_23 : {p : ℕ} → failing22 (words l.circuit) (words l.inputs1) (words l.inputs2) ≡ []
-      → Lowest p (failing23 (words l.circuit) (words l.inputs1) (words l.inputs2)) → Refuses l 23 p
-  promise_23 no_22 low = promise_refused l (Evaluates.with_23 (pass_20 l pass.0, (pass.1.0, (no_22, tt))) low)
+      sym (gates_in_lem l.circuit) ∙ sym (gates_all (words l.circuit) (gate_count (words l.circuit)) gates.keeps)
+      ∙ wires_and_outs (gs l) ∙ ap (λ k. k + out_count (gs l)) (sym wires_are)
 
   -- Once the inputs pass too.
   module _ (fit : FitInputs l.circuit l.inputs1 l.inputs2) where
     abbrev four : Clear (take 4 (evaluate_checks l))
-    four = (pass_20 l pass.0, (pass.1.0, (fit.no_22, (fit.no_23, tt))))
+    four = (pass_20 l gates.fits, (gates.keeps, (fit.no_22, (fit.no_23, tt))))
 
-    pub promise_24 : length l.tape / 4 < w → Refuses l 24 0
-    promise_24 short = promise_refused l (Evaluates.with_24 four (refuse_24 l (omega (arith, pass.1.1.count))))
+    pub promise_24 : length l.tape / 4 < w → Refuses l TapeShort
+    promise_24 short = promise_refused l TapeShort (Evaluates.with_24 four (refuse_24 l (omega (arith, wires_are))))
 
     -- Once the tape is long enough.
     module _ (long : w ≤ length l.tape / 4) where
       abbrev five : Clear (take 5 (evaluate_checks l))
-      five = (four.0, (four.1.0, (four.1.1.0, (four.1.1.1.0, (pass_24 l (omega (arith, pass.1.1.count)), tt)))))
+      five = (four.0, (four.1.0, (four.1.1.0, (four.1.1.1.0, (pass_24 l (omega (arith, wires_are)), tt)))))
 
       -- the code's test of the memories is the check's
       abbrev enough : Bool
@@ -120,32 +148,31 @@ module _ (l : Lent) (sorts : List ℕ) (w : ℕ) (pass : GatesPass l.circuit sor
       enough_is : enough ≡ room l
       enough_is =
           let rest : length l.circuit / 20 - w ≡ out_count (gs l) = omega (arith, wires_or_outs) in
-          rw (rest, pass.1.1.count)
+          rw (rest, wires_are)
 
-      pub promise_25 : enough ≡ false → Refuses l 25 0
-      promise_25 e = promise_refused l (Evaluates.with_25 five (refuse_25 l (sym enough_is ∙ e)))
+      pub promise_25 : enough ≡ false → Refuses l MemoryShort
+      promise_25 e = promise_refused l MemoryShort (Evaluates.with_25 five (refuse_25 l (sym enough_is ∙ e)))
 
       -- with memory enough the run may begin,
-      pub ready_to_run : enough ≡ true → Ready l.circuit l.tape sorts (memories l.shares1 l.shares2 l.outputs)
-      ready_to_run e =
+      pub ready_to_run : enough ≡ true → {run : Run} → Reads run l sorts → Ready run (lent_contents l)
+      ready_to_run e reads =
           let (one, two, outs) = passed_25 (gs l) l.shares1 l.shares2 l.outputs (pass_25 l (sym enough_is ∙ e)) in
           record {
-            keeps = pass.1.0;
-            few = omega (arith, gates_in_lem l.circuit, few_gates);
-            sorts_are = pass.1.1.sorts_are;
-            tape_long = omega (arith, pass.1.1.count);
-            one_long = omega (arith, words-length l.shares1);
-            two_long = omega (arith, words-length l.shares2);
-            outs_long = omega (arith, words-length l.outputs);
+            keeps = rw reads.circuit_is gates.keeps;
+            few = rw reads.circuit_is (omega (arith, gates_in_lem l.circuit, few_gates));
+            noted = rw (reads.circuit_is, reads.sorts_are) gates.noted;
+            tape_long = rw (reads.circuit_is, reads.tape_is) (omega (arith, wires_are));
+            one_long = rw reads.circuit_is (omega (arith, words-length l.shares1));
+            two_long = rw reads.circuit_is (omega (arith, words-length l.shares2));
+            outs_long = rw reads.circuit_is (omega (arith, words-length l.outputs));
           }
 
       -- and its end is the promise
-      pub promise_accepted : enough ≡ true → {one two outs : List ℕ}
-          → Done l.circuit (inputs (words l.inputs1) (words l.inputs2)) (words l.tape) (memories l.shares1 l.shares2 l.outputs)
-          (memories one two outs)
-          → Promise l (record { number = 0; place = 0; wires = w; outputs = length l.circuit / 20 - w }) one two outs
+      pub promise_accepted : enough ≡ true → {run : Run} → Reads run l sorts → {now : Contents} → Done run (lent_contents l) now
+          → {one two outs : List ℕ} → one ≡ now.one → two ≡ now.two → outs ≡ now.outs
+          → Promise l (answered (Ok (record { wires = w; outputs = length l.circuit / 20 - w }))) one two outs
       unfolding evaluate_answer leaves_one leaves_two leaves_outs
-      promise_accepted e done =
+      promise_accepted e reads done one_is two_is outs_are =
           let given = inputs (words l.inputs1) (words l.inputs2) in
           let outs = (shared given (words l.tape) (gs l)).outs in
           let six : Clear (evaluate_checks l) = (five.0, (five.1.0, (five.1.1.0, (five.1.1.1.0, (five.1.1.1.1.0, (pass_25 l (sym enough_is ∙ e), tt)))))) in
@@ -153,8 +180,8 @@ module _ (l : Lent) (sorts : List ℕ) (w : ℕ) (pass : GatesPass l.circuit sor
           let rest : length l.circuit / 20 - w ≡ length (reverse outs) =
           omega (arith, wires_or_outs, length-reverse outs, outs_of_shares given (words l.tape) (gs l)) in
           record {
-            answer_is = rw (is, rest, pass.1.1.count);
-            one_is = rw is done.one_is;
-            two_is = rw is done.two_is;
-            outs_are = rw is done.outs_are;
+            answer_is = rw (is, rest, wires_are);
+            one_is = rw (is, one_is, done.one_is, reads.circuit_is, reads.one_is, reads.two_is, reads.tape_is);
+            two_is = rw (is, two_is, done.two_is, reads.circuit_is, reads.one_is, reads.two_is, reads.tape_is);
+            outs_are = rw (is, outs_are, done.outs_are, reads.circuit_is, reads.one_is, reads.two_is, reads.tape_is);
           }

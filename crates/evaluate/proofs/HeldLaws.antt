@@ -21,9 +21,13 @@ use Rattle.rules.proofs.Circuits.{outs_of_shares}
 use Rattle.rules.proofs.Earlier.{count-made, count_out, outs_made, outs_out}
 use Rattle.rules.proofs.Shares.{made-same, share_one_word, share_two_word}
 use Rattle.rules.proofs.Memories.{shares_one_length, shares_two_length}
-use Rattle.circuit.specs.Noted.{SortsOf}
-use Rattle.circuit.proofs.SortLaws.{sort_of_number}
-use Rattle.evaluate.specs.Held.{Memories, joined_in, Held}
+use Rattle.std.proofs.lemmas.Option.{get_or_from_slice_get}
+use Rattle.circuit.specs.declared.sorts.Sort as code
+use Rattle.circuit.specs.Sorts.{meant_sort}
+use Rattle.circuit.specs.Noted.{WiresNoted}
+use Rattle.circuit.proofs.SortLaws.{sort_meant}
+use Rattle.evaluate.specs.Held.{Contents, with_shares, with_output, sort_in, joined_in, Held}
+use Rattle.evaluate.specs.declared.desks.Counts.{Counts}
 
 -- Words put into a memory and read back.
 
@@ -105,15 +109,23 @@ module _ (given : Given) (tape : List ℕ) where
   outs_length : (gs : List Gate) → length (reverse (shared given tape gs).outs) ≡ out_count gs
   outs_length gs = length-reverse (shared given tape gs).outs ∙ outs_of_shares given tape gs
 
+-- the sorts of the wires that gates make
+abbrev pub SortsOf : List Gate → List code.Sort → Type 0
+SortsOf gs sorts = (k : ℕ) → k < (wires gs).count → sort_in sorts k ≡ (wires gs).sort k
+
+pub sorts_noted : {gs : List Gate} {sorts : List code.Sort} → WiresNoted gs (record { items = sorts }) → SortsOf gs sorts
+sorts_noted {gs} {sorts} noted k below =
+    ap meant_sort (get_or_from_slice_get sorts k _ _ (noted.sorts_are k below)) ∙ sort_meant ((wires gs).sort k)
+
 -- What is held.
 
 -- before the first gate the memories are as they were lent
-pub held_none : {given : Given} {tape : List ℕ} {lent : Memories} → Held given tape [] lent lent 0 0
+pub held_none : {given : Given} {tape : List ℕ} {lent : Contents} {so_far : Counts} → so_far.wires ≡ 0 → so_far.outs ≡ 0 → Held given tape [] lent lent so_far
 unfolding wires out_count shares_one shares_two shared listed
-held_none {lent} =
+held_none {lent} no_wires no_outs =
     record {
-      wires_so_far = refl;
-      outs_so_far = refl;
+      wires_so_far = no_wires;
+      outs_so_far = no_outs;
       one_is = sym (over_none lent.one);
       two_is = sym (over_none lent.two);
       outs_are = sym (over_none lent.outs);
@@ -124,44 +136,40 @@ held_none {lent} =
       outs_long = refl;
     }
 
-module _ {given : Given} {tape : List ℕ} {gs : List Gate} {lent now : Memories} {w m : ℕ} where
+module _ {given : Given} {tape : List ℕ} {gs : List Gate} {lent now : Contents} {so_far : Counts} where
   -- after a gate that makes a wire, with its two shares put at the next place
-  pub held_wire : (g : Gate) {new : ℕ} → T (keeps_rules gs g) → makes g ≡ some new → Held given tape gs lent now w m
-      → (v : ℕ) → v < 2 ^ 32 → v ≡ gives given tape g gs → taken tape w < 2 ^ 32
-      → 4 * w + 4 ≤ length now.one → 4 * w + 4 ≤ length now.two
+  pub held_wire : (g : Gate) {new : ℕ} → T (keeps_rules gs g) → makes g ≡ some new → Held given tape gs lent now so_far
+      → (v : ℕ) → v < 2 ^ 32 → v ≡ gives given tape g gs → taken tape so_far.wires < 2 ^ 32
+      → 4 * so_far.wires + 4 ≤ length now.one → 4 * so_far.wires + 4 ≤ length now.two
       → Held given tape (g ∷ gs) lent
-      (record {
-        one = put_at now.one w (share_one (sort_made (wires gs).sort g) (taken tape w));
-        two = put_at now.two w (share_two (sort_made (wires gs).sort g) v (taken tape w));
-        outs = now.outs;
-      })
-      (w + 1) m
+      (with_shares now so_far.wires (sort_made (wires gs).sort g) v (taken tape so_far.wires))
+      (record { wires = so_far.wires + 1; outs = so_far.outs })
   held_wire g ok e held v word is tape-word room-one room-two =
       let s : Sort = sort_made (wires gs).sort g in
-      let t : ℕ = taken tape w in
+      let t : ℕ = taken tape so_far.wires in
       let xs : List ℕ = shares_one given tape gs in
       let ys : List ℕ = shares_two given tape gs in
       let ones : shares_one given tape (g ∷ gs) ≡ xs ++ share_one s t ∷ [] = rw held.wires_so_far (one_made given tape g gs ok e) in
       let twos : shares_two given tape (g ∷ gs) ≡ ys ++ share_two s v t ∷ [] = rw (held.wires_so_far, is) (two_made given tape g gs ok e) in
-      let here-one : w ≡ length xs = held.wires_so_far ∙ sym (shares_one_length given tape gs) in
-      let here-two : w ≡ length ys = held.wires_so_far ∙ sym (shares_two_length given tape gs) in
+      let here-one : so_far.wires ≡ length xs = held.wires_so_far ∙ sym (shares_one_length given tape gs) in
+      let here-two : so_far.wires ≡ length ys = held.wires_so_far ∙ sym (shares_two_length given tape gs) in
       record {
         wires_so_far = omega (arith, count-made g gs e);
         outs_so_far = held.outs_so_far ∙ sym (outs_made g gs e);
-        one_is = rw ones (put_next xs lent.one now.one w (share_one s t) held.one_is here-one (omega (arith, held.one_long)));
-        two_is = rw twos (put_next ys lent.two now.two w (share_two s v t) held.two_is here-two (omega (arith, held.two_long)));
+        one_is = rw ones (put_next xs lent.one now.one so_far.wires (share_one s t) held.one_is here-one (omega (arith, held.one_long)));
+        two_is = rw twos (put_next ys lent.two now.two so_far.wires (share_two s v t) held.two_is here-two (omega (arith, held.two_long)));
         outs_are = rw (shared_outs_made given tape g gs e) held.outs_are;
         one_words = rw ones (words_both xs (share_one s t ∷ []) held.one_words (share_one_word s t tape-word, tt));
         two_words = rw twos (words_both ys (share_two s v t ∷ []) held.two_words (share_two_word s v t word tape-word, tt));
-        one_long = put-length now.one w (share_one s t) ∙ held.one_long;
-        two_long = put-length now.two w (share_two s v t) ∙ held.two_long;
+        one_long = put-length now.one so_far.wires (share_one s t) ∙ held.one_long;
+        two_long = put-length now.two so_far.wires (share_two s v t) ∙ held.two_long;
         outs_long = held.outs_long;
       }
 
   -- after an out, with its value put at the next place of the outputs
-  pub held_out : (g : Gate) → makes g ≡ none → Held given tape gs lent now w m → (v : ℕ) → v ≡ gives given tape g gs
-      → 4 * m + 4 ≤ length now.outs
-      → Held given tape (g ∷ gs) lent (record { one = now.one; two = now.two; outs = put_at now.outs m v }) w (m + 1)
+  pub held_out : (g : Gate) → makes g ≡ none → Held given tape gs lent now so_far → (v : ℕ) → v ≡ gives given tape g gs
+      → 4 * so_far.outs + 4 ≤ length now.outs
+      → Held given tape (g ∷ gs) lent (with_output now so_far.outs v) (record { wires = so_far.wires; outs = so_far.outs + 1 })
   held_out g e held v is room =
       record {
         wires_so_far = held.wires_so_far ∙ sym (count_out g gs e);
@@ -169,24 +177,23 @@ module _ {given : Given} {tape : List ℕ} {gs : List Gate} {lent now : Memories
         one_is = rw (one_out given tape g gs e) held.one_is;
         two_is = rw (two_out given tape g gs e) held.two_is;
         outs_are = rw (shared_outs_out given tape g gs e, is)
-            (put_next (reverse (shared given tape gs).outs) lent.outs now.outs m (gives given tape g gs) held.outs_are
+            (put_next (reverse (shared given tape gs).outs) lent.outs now.outs so_far.outs (gives given tape g gs) held.outs_are
             (held.outs_so_far ∙ sym (outs_length given tape gs)) (omega (arith, held.outs_long)));
         one_words = rw (one_out given tape g gs e) held.one_words;
         two_words = rw (two_out given tape g gs e) held.two_words;
         one_long = held.one_long;
         two_long = held.two_long;
-        outs_long = put-length now.outs m v ∙ held.outs_long;
+        outs_long = put-length now.outs so_far.outs v ∙ held.outs_long;
       }
 
   -- the value of a wire that stands is joined of the memories
-  held_joined : Held given tape gs lent now w m → (sorts : List ℕ) → SortsOf gs sorts → (k : ℕ) → k < w
-      → joined_in sorts now.one now.two k ≡ joined_at (wires gs).sort (shared given tape gs) k
+  held_joined : Held given tape gs lent now so_far → (sorts : List code.Sort) → SortsOf gs sorts → (k : ℕ) → k < so_far.wires
+      → joined_in sorts now k ≡ joined_at (wires gs).sort (shared given tape gs) k
   unfolding shares_one shares_two
   held_joined held sorts all k below =
       let below' : k < (wires gs).count = omega arith in
       rw (
         all k below',
-        sort_of_number ((wires gs).sort k),
         held.one_is,
         held.two_is,
         read_over (wires gs).count (shared given tape gs).one lent.one held.one_words k below',
@@ -194,8 +201,8 @@ module _ {given : Given} {tape : List ℕ} {gs : List Gate} {lent now : Memories
       )
 
   -- so the next gate has its value
-  pub held_value : Held given tape gs lent now w m → (sorts : List ℕ) → SortsOf gs sorts → (g : Gate) → T (keeps_rules gs g)
-      → value_of given (joined_in sorts now.one now.two) g ≡ gives given tape g gs
+  pub held_value : Held given tape gs lent now so_far → (sorts : List code.Sort) → SortsOf gs sorts → (g : Gate) → T (keeps_rules gs g)
+      → value_of given (joined_in sorts now) g ≡ gives given tape g gs
   held_value held sorts all g ok =
-      made-same given (wires gs) (joined_in sorts now.one now.two) (joined_at (wires gs).sort (shared given tape gs))
+      made-same given (wires gs) (joined_in sorts now) (joined_at (wires gs).sort (shared given tape gs))
       (λ k below. held_joined held sorts all k (omega arith)) g (kept_of gs g ok)

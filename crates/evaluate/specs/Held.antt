@@ -1,33 +1,65 @@
 -- What the lent memories hold while a circuit is evaluated, gate by gate (document 01, "Shares"; Figure 13). Only functions
 -- inside the desk cite it.
-use Rattle.std.specs.Prelude.{ℕ, suc, ◌+◌, ◌*◌, ◌≤◌, ◌<◌, ◌≡◌, List, [], reverse, T, length, get_or}
-use Rattle.words.specs.Words.{words, over, AllWords}
-use Rattle.rules.specs.Gates.{Gate, gates_to, gate_count, wires, circuit_fits}
-use Rattle.rules.specs.Plain.{Given}
-use Rattle.rules.specs.Shares.{join, shared, shares_one, shares_two}
+use Rattle.std.specs.Prelude.{ℕ, suc, ◌+◌, ◌*◌, ◌≤◌, ◌<◌, ◌≡◌, List, [], reverse, length, get_or, slice_index_or}
+use Rattle.words.specs.Words.{words, over, put_at, AllWords}
+use Rattle.rules.specs.Sorts as rules
+use Rattle.rules.specs.Gates.{Gate, gates_to, gate_count, wires}
+use Rattle.rules.specs.Plain.{Given, inputs}
+use Rattle.rules.specs.Shares.{share_one, share_two, join, shared, shares_one, shares_two}
 use Rattle.rules.specs.Answers.{out_count, gates_of, failing21}
-use Rattle.circuit.specs.Sorts.{sort_from}
-use Rattle.circuit.specs.Noted.{SortsOf, WiresNoted}
+use Rattle.circuit.specs.declared.sorts.Sort.{Sort}
+use Rattle.circuit.specs.declared.sorts.Sort.TheVariants.{Arithmetic}
+use Rattle.circuit.specs.Sorts.{meant_sort}
+use Rattle.circuit.specs.Noted.{WiresNoted}
 use Rattle.circuit.specs.declared.gates.Gate as code
-use Rattle.circuit.specs.declared.gates.Gate.TheVariants.{Both, Mux, Constant, Convert, Input, Out, Nothing}
+use Rattle.circuit.specs.declared.gates.Gate.TheVariants.{Both, Mux, Constant, Convert, Input, Out}
+use Rattle.evaluate.specs.declared.memories.Memories.{Memories}
+use Rattle.evaluate.specs.declared.desks.Counts.{Counts}
+use Rattle.evaluate.specs.declared.desks.Run.{Run}
 
--- the three lent memories
-pub record Memories : Type 0 where
+-- what the three lent memories hold
+pub record Contents : Type 0 where
   pub one : List ℕ
   pub two : List ℕ
   pub outs : List ℕ
 
-abbrev pub memories : List ℕ → List ℕ → List ℕ → Memories
-memories one two outs = record { one = one; two = two; outs = outs }
+abbrev pub contents : Memories → Contents
+contents m = record { one = m.one.now; two = m.two.now; outs = m.outs.now }
 
--- the value of wire k, joined of the two share memories, by an array of the wires' sorts
-abbrev pub joined_in : List ℕ → List ℕ → List ℕ → ℕ → ℕ
-joined_in sorts one two k = join (sort_from (get_or sorts k 0)) (get_or (words one) k 0) (get_or (words two) k 0)
+-- with the two shares of a wire put at its places, by its sort, its value and its tape word
+abbrev pub with_shares : Contents → ℕ → rules.Sort → ℕ → ℕ → Contents
+with_shares now k sort v t = record {
+  one = put_at now.one k (share_one sort t);
+  two = put_at now.two k (share_two sort v t);
+  outs = now.outs;
+}
 
--- after the gates gs, with the tape's words, over what was lent: a share of each wire, and each output; w wires and m outputs so far
-pub record Held (given : Given) (tape_words : List ℕ) (gs : List Gate) (lent now : Memories) (w m : ℕ) : Type 0 where
-  pub wires_so_far : w ≡ (wires gs).count
-  pub outs_so_far : m ≡ out_count gs
+-- with an output put at its place
+abbrev pub with_output : Contents → ℕ → ℕ → Contents
+with_output now m v = record { one = now.one; two = now.two; outs = put_at now.outs m v }
+
+-- they are the same memories, whatever was written
+pub record SameMemories (old new : Memories) : Type 0 where
+  pub one : new.one.ghost_name ≡ old.one.ghost_name
+  pub two : new.two.ghost_name ≡ old.two.ghost_name
+  pub outs : new.outs.ghost_name ≡ old.outs.ghost_name
+
+-- the sort of wire k, by the wires' sorts; past the last it is not asked
+abbrev pub sort_in : List Sort → ℕ → rules.Sort
+sort_in sorts k = meant_sort (slice_index_or sorts k Arithmetic)
+
+-- the value of wire k, joined of the two share memories, by the wires' sorts
+abbrev pub joined_in : List Sort → Contents → ℕ → ℕ
+joined_in sorts now k = join (sort_in sorts k) (get_or (words now.one) k 0) (get_or (words now.two) k 0)
+
+-- the inputs that a run reads
+abbrev pub given_in : Run → Given
+given_in run = inputs (words run.inputs.one.now) (words run.inputs.two.now)
+
+-- after the gates gs, with the tape's words, over what was lent: a share of each wire, and each output; and so many of both
+pub record Held (given : Given) (tape_words : List ℕ) (gs : List Gate) (lent now : Contents) (so_far : Counts) : Type 0 where
+  pub wires_so_far : so_far.wires ≡ (wires gs).count
+  pub outs_so_far : so_far.outs ≡ out_count gs
   pub one_is : now.one ≡ over (shares_one given tape_words gs) lent.one
   pub two_is : now.two ≡ over (shares_two given tape_words gs) lent.two
   pub outs_are : now.outs ≡ over (reverse (shared given tape_words gs).outs) lent.outs
@@ -37,48 +69,48 @@ pub record Held (given : Given) (tape_words : List ℕ) (gs : List Gate) (lent n
   pub two_long : length now.two ≡ length lent.two
   pub outs_long : length now.outs ≡ length lent.outs
 
--- a wire has a place in the array of sorts and in both share memories
-abbrev pub WireIn : List ℕ → List ℕ → ℕ → Type 0
-WireIn one two k = (k < 3000) × ((4 * k + 4 ≤ length one) × (4 * k + 4 ≤ length two))
+-- a wire has a place in both share memories
+abbrev pub HasPlaces : Contents → ℕ → Type 0
+HasPlaces now k = (4 * k + 4 ≤ length now.one) × (4 * k + 4 ≤ length now.two)
+
+-- and among the sorts
+abbrev pub WireIn : List Sort → Contents → ℕ → Type 0
+WireIn sorts now k = (k < length sorts) × HasPlaces now k
 
 -- so has each wire that a gate reads
-abbrev pub WiresIn : List ℕ → List ℕ → code.Gate → Type 0
-WiresIn one two (Both o a b new) = WireIn one two a.0 × WireIn one two b.0
-WiresIn one two (Mux g a b new) = WireIn one two g.0 × (WireIn one two a.0 × WireIn one two b.0)
-WiresIn one two (Constant v s new) = Unit {0}
-WiresIn one two (Convert w s new) = WireIn one two w.0
-WiresIn one two (Input d n s new) = Unit {0}
-WiresIn one two (Out w) = WireIn one two w.0
-WiresIn one two Nothing = Unit {0}
+abbrev pub WiresIn : List Sort → Contents → code.Gate → Type 0
+WiresIn sorts now (Both o a b new) = WireIn sorts now a.0 × WireIn sorts now b.0
+WiresIn sorts now (Mux g a b new) = WireIn sorts now g.0 × (WireIn sorts now a.0 × WireIn sorts now b.0)
+WiresIn sorts now (Constant v s new) = Unit {0}
+WiresIn sorts now (Convert w s new) = WireIn sorts now w.0
+WiresIn sorts now (Input r new) = Unit {0}
+WiresIn sorts now (Out w) = WireIn sorts now w.0
 
--- a circuit passes 20 and 21, and its w wires are noted with their sorts
-abbrev pub GatesPass : List ℕ → List ℕ → ℕ → Type 0
-GatesPass circuit sorts w = T (circuit_fits circuit) × ((failing21 (words circuit) ≡ []) × WiresNoted (gates_of circuit) sorts w)
+-- a run's circuit passes check 21, its wires' sorts are noted, and tape and memory are enough
+pub record Ready (run : Run) (now : Contents) : Type 0 where
+  pub keeps : failing21 (words run.circuit.now) ≡ []
+  pub few : gate_count (words run.circuit.now) ≤ 3000
+  pub noted : WiresNoted (gates_of run.circuit.now) (record { items = run.sorts.now })
+  pub tape_long : 4 * (wires (gates_of run.circuit.now)).count ≤ length run.tape.now
+  pub one_long : 4 * (wires (gates_of run.circuit.now)).count ≤ length now.one
+  pub two_long : 4 * (wires (gates_of run.circuit.now)).count ≤ length now.two
+  pub outs_long : 4 * out_count (gates_of run.circuit.now) ≤ length now.outs
 
--- a circuit that passes check 21, with its wires' sorts, and tape and memory enough
-pub record Ready (circuit tape sorts : List ℕ) (now : Memories) : Type 0 where
-  pub keeps : failing21 (words circuit) ≡ []
-  pub few : gate_count (words circuit) ≤ 3000
-  pub sorts_are : SortsOf (gates_of circuit) sorts
-  pub tape_long : 4 * (wires (gates_of circuit)).count ≤ length tape
-  pub one_long : 4 * (wires (gates_of circuit)).count ≤ length now.one
-  pub two_long : 4 * (wires (gates_of circuit)).count ≤ length now.two
-  pub outs_long : 4 * out_count (gates_of circuit) ≤ length now.outs
-
--- and gate i is the next, after w wires and m outputs
-pub record Before (circuit tape sorts : List ℕ) (now : Memories) (i w m : ℕ) : Type 0 where
-  pub ready : Ready circuit tape sorts now
-  pub within : i < gate_count (words circuit)
-  pub wires_so_far : w ≡ (wires (gates_to (words circuit) i)).count
-  pub outs_so_far : m ≡ out_count (gates_to (words circuit) i)
+-- and gate i is the next, after so many wires and outputs
+pub record Before (run : Run) (now : Contents) (i : ℕ) (so_far : Counts) : Type 0 where
+  pub ready : Ready run now
+  pub within : i < gate_count (words run.circuit.now)
+  pub wires_so_far : so_far.wires ≡ (wires (gates_to (words run.circuit.now) i)).count
+  pub outs_so_far : so_far.outs ≡ out_count (gates_to (words run.circuit.now) i)
 
 -- gate i takes memories that hold the gates before it to memories that hold it too
-abbrev pub Turned : List ℕ → Given → List ℕ → ℕ → Memories → ℕ → ℕ → Memories → ℕ → ℕ → Type 0
-Turned circuit given tape_words i now w m now' w' m' =
-    (lent : Memories) → Held given tape_words (gates_to (words circuit) i) lent now w m → Held given tape_words (gates_to (words circuit) (suc i)) lent now' w' m'
+abbrev pub Turned : Run → ℕ → Contents → Counts → Contents → Counts → Type 0
+Turned run i now so_far now' so_far' =
+    (lent : Contents) → Held (given_in run) (words run.tape.now) (gates_to (words run.circuit.now) i) lent now so_far
+    → Held (given_in run) (words run.tape.now) (gates_to (words run.circuit.now) (suc i)) lent now' so_far'
 
 -- at the end they hold all gates, over what was lent
-pub record Done (circuit : List ℕ) (given : Given) (tape_words : List ℕ) (lent now : Memories) : Type 0 where
-  pub one_is : now.one ≡ over (shares_one given tape_words (gates_of circuit)) lent.one
-  pub two_is : now.two ≡ over (shares_two given tape_words (gates_of circuit)) lent.two
-  pub outs_are : now.outs ≡ over (reverse (shared given tape_words (gates_of circuit)).outs) lent.outs
+pub record Done (run : Run) (lent now : Contents) : Type 0 where
+  pub one_is : now.one ≡ over (shares_one (given_in run) (words run.tape.now) (gates_of run.circuit.now)) lent.one
+  pub two_is : now.two ≡ over (shares_two (given_in run) (words run.tape.now) (gates_of run.circuit.now)) lent.two
+  pub outs_are : now.outs ≡ over (reverse (shared (given_in run) (words run.tape.now) (gates_of run.circuit.now)).outs) lent.outs

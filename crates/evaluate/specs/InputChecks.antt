@@ -1,24 +1,40 @@
 -- Checks 22 and 23 as one test of an input that is read, and the lowest gate that fails one (document 01, "Order of refusals").
 -- Only functions inside the desk cite it.
-use Rattle.std.specs.Prelude.{ℕ, ◌<◌, ◌≤◌, ◌≡◌, Bool, List, [], ltb, length}
-use Rattle.rules.specs.Sorts.{Sort, fits_sort}
+use Rattle.std.specs.Prelude.{ℕ, ◌≡◌, Bool, List, [], Option, MatchOption, ltb, length}
+use Rattle.words.specs.Words.{words}
+use Rattle.rules.specs.Places.{failing_below}
+use Rattle.rules.specs.Sorts as rules
+use Rattle.rules.specs.Gates.{gate_at, gate_count, entry_test}
 use Rattle.rules.specs.Plain.{of_desk, inputs}
 use Rattle.rules.specs.Answers.{failing22, failing23}
 use Rattle.rules.specs.Refusals.{Lowest}
-use Rattle.evaluate.specs.declared.inputs.InputCheck.{InputCheck}
-use Rattle.evaluate.specs.declared.inputs.InputCheck.TheVariants.{Present, FitsSort}
+use Rattle.circuit.specs.Sorts.{meant_sort}
+use Rattle.circuit.specs.declared.gates.Read.{Read}
+use Rattle.evaluate.specs.declared.Refusal.{Refusal}
+use Rattle.evaluate.specs.declared.Refusal.TheVariants.{InputMissing, InputNoBool}
 
--- input n of desk d, read at sort m, of both desks' inputs
-abbrev pub input_test : InputCheck → List ℕ → List ℕ → ℕ → ℕ → Sort → Bool
-input_test Present one two d n m = ltb n (length (of_desk one two d))
-input_test FitsSort one two d n m = fits_sort m (inputs one two d n)
+-- check 22, that an input read is there, and check 23, that it fits the sort it is read at: a bool is 0 or 1
+abbrev pub there : List ℕ → List ℕ → ℕ → ℕ → rules.Sort → Bool
+there one two desk number sort = ltb number (length (of_desk one two desk))
 
--- the gates that fail it
-abbrev pub failing_of : InputCheck → List ℕ → List ℕ → List ℕ → List ℕ
-failing_of Present c one two = failing22 c one two
-failing_of FitsSort c one two = failing23 c one two
+abbrev pub fits : List ℕ → List ℕ → ℕ → ℕ → rules.Sort → Bool
+fits one two desk number sort = rules.fits_sort sort (inputs one two desk number)
 
--- r is the lowest of these places below n, or not below n where there is none
-pub record Found (ps : List ℕ) (n r : ℕ) : Type 0 where
-  pub at_lowest : r < n → Lowest r ps
-  pub nowhere : n ≤ r → ps ≡ []
+-- a closure, by what its calls answer, is a test of an input: its desk, its number and the sort at which it is read
+abbrev pub Tests : (Read → Bool → Type 0) → (ℕ → ℕ → rules.Sort → Bool) → Type 0
+Tests answers ok = (read : Read) (r : Bool) → answers read r → r ≡ ok read.desk read.number (meant_sort read.sort)
+
+-- the gates, of a circuit's words, that read an input that fails a test
+abbrev pub failing_of : (ℕ → ℕ → rules.Sort → Bool) → List ℕ → List ℕ
+failing_of ok c = failing_below (λ i. entry_test ok (gate_at c i)) (gate_count c)
+
+-- the lowest of them, or none
+abbrev pub Found : (ℕ → ℕ → rules.Sort → Bool) → List ℕ → Option ℕ → Type 0
+Found ok c found = MatchOption found (failing_of ok c ≡ []) (λ i. Lowest i (failing_of ok c))
+
+-- what checks 22 and 23 refuse, of the bytes of a circuit and of both desks' inputs
+abbrev pub InputsRefused : List ℕ → List ℕ → List ℕ → Refusal → Type 0
+InputsRefused circuit one two (InputMissing g) = Lowest g (failing22 (words circuit) (words one) (words two))
+InputsRefused circuit one two (InputNoBool g) =
+    (failing22 (words circuit) (words one) (words two) ≡ []) × Lowest g (failing23 (words circuit) (words one) (words two))
+InputsRefused circuit one two _ = ⊥

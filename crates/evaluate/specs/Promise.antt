@@ -1,10 +1,9 @@
 -- What evaluation promises (document 01, "Order of refusals"): its answer by the paper's numbers, and each lent memory.
-use Rattle.std.specs.Prelude.{ℕ, ◌≡◌, List}
+use Rattle.std.specs.Prelude.{ℕ, ◌≡◌, List, Result, Ok, Err}
 use Rattle.rules.specs.Answers.{Lent, Evaluated, evaluate_answer, leaves_one, leaves_two, leaves_outs}
 use Rattle.evaluate.specs.declared.Refusal.{Refusal}
 use Rattle.evaluate.specs.declared.Refusal.TheVariants.{CircuitLength, GateBreaksRules, InputMissing, InputNoBool, TapeShort, MemoryShort}
-use Rattle.evaluate.specs.declared.Answer.{Answer}
-use Rattle.evaluate.specs.declared.Answer.TheVariants.{Accepted, Refused}
+use Rattle.evaluate.specs.declared.Accepted.{Accepted}
 
 -- the paper's number of a refusal
 abbrev pub refusal_number : Refusal → ℕ
@@ -25,9 +24,9 @@ refusal_place TapeShort = 0
 refusal_place MemoryShort = 0
 
 -- number, place and counts of an answer; a refusal has zero counts
-abbrev pub answered : Answer → Evaluated
-answered (Accepted w o) = record { number = 0; place = 0; wires = w; outputs = o }
-answered (Refused why) = record { number = refusal_number why; place = refusal_place why; wires = 0; outputs = 0 }
+abbrev pub answered : Result Accepted Refusal → Evaluated
+answered (Ok counts) = record { number = 0; place = 0; wires = counts.wires; outputs = counts.outputs }
+answered (Err why) = record { number = refusal_number why; place = refusal_place why; wires = 0; outputs = 0 }
 
 -- what is lent
 abbrev pub lent_with : List ℕ → List ℕ → List ℕ → List ℕ → List ℕ → List ℕ → List ℕ → Lent

@@ -1,100 +1,60 @@
 // The inputs that a circuit reads, and checks 22 and 23 of them.
-ghost use Rattle.std.specs.Prelude.{◌≡◌, [], ◌/◌, ltb, length, get_or};
-ghost use Rattle.std.proofs.Math.Option.{some};
+ghost use Rattle.std.specs.Prelude.{◌≡◌, T, Bool, ℕ, ltb, length};
 ghost use Rattle.words.specs.Words.{words};
-ghost use Rattle.rules.specs.Gates as rules;
-ghost use Rattle.rules.specs.Gates.{entry_test};
+ghost use Rattle.rules.specs.Gates.{circuit_fits};
 ghost use Rattle.rules.specs.Plain.{of_desk, inputs};
-ghost use Rattle.rules.specs.Answers.{failing21};
-ghost use Rattle.circuit.specs.Sorts.{meant_sort};
-ghost use Rattle.circuit.specs.Gates.{meant_gate};
-ghost use Rattle.evaluate.specs.InputChecks.{input_test, failing_of, Found};
+ghost use Rattle.rules.specs.Sorts as rules;
+ghost use Rattle.evaluate.specs.InputChecks.{Tests, Found};
 
-use circuit::gates::{Gate, Read, gate_at};
-use circuit::sorts::Sort;
+use circuit::gates::{Read, gate_at};
 
-// Word n of the bytes; past their end, 0.
-fn word_or_zero(b: &[u8], n: u32) -> u32
-    ensures { result ≡ get_or (words b.now) n 0 }
-{
-    let k = n as usize;
-    if k < b.len() / 4 { words::get(b, k) } else { 0 }
-}
-
-// A desk's input.
-pub fn input(inputs1: &[u8], inputs2: &[u8], desk: u32, number: u32) -> u32
-    ensures { result ≡ inputs (words inputs1.now) (words inputs2.now) desk number }
-{
-    if desk == 1 {
-        word_or_zero(inputs1, number)
-    } else {
-        word_or_zero(inputs2, number)
-    }
-}
-
-// A desk's input is there.
-fn is_present(inputs1: &[u8], inputs2: &[u8], desk: u32, number: u32) -> bool
-    ensures { result ≡ ltb number (length (of_desk (words inputs1.now) (words inputs2.now) desk)) }
-{
-    let k = number as usize;
-    if desk == 1 {
-        k < inputs1.len() / 4
-    } else {
-        k < inputs2.len() / 4
-    }
-}
-
-// Check 22, that an input read is there, and check 23, that it fits the sort it is read at: a bool is 0 or 1.
+// Both desks' inputs.
 #[derive(Clone, Copy)]
-pub enum InputCheck {
-    Present,
-    FitsSort,
+pub struct Inputs<'a> {
+    pub one: &'a [u8],
+    pub two: &'a [u8],
 }
 
-fn input_passes(
-    check: InputCheck,
-    inputs1: &[u8],
-    inputs2: &[u8],
-    desk: u32,
-    number: u32,
-    sort: Sort,
-) -> bool
-    ensures { result ≡ input_test check (words inputs1.now) (words inputs2.now) desk number (meant_sort sort) }
-{
-    match check {
-        InputCheck::Present => is_present(inputs1, inputs2, desk, number),
-        InputCheck::FitsSort => sort.holds(input(inputs1, inputs2, desk, number)),
+impl Inputs<'_> {
+    // The bytes of a desk's inputs. (A desk is a number, as gates have it; any but 1 is read as desk 2, as the rules say.)
+    fn of_desk(&self, desk: u32) -> &[u8]
+        ensures { result.now ≡ of_desk self.now.one.now self.now.two.now desk }
+    {
+        if desk == 1 { self.one } else { self.two }
     }
-}
 
-// A gate passes the check; a gate that reads no input passes.
-fn passes(check: InputCheck, inputs1: &[u8], inputs2: &[u8], gate: Gate) -> bool
-    ensures { (g : rules.Gate) → meant_gate gate ≡ some g
-        → result ≡ entry_test (input_test check (words inputs1.now) (words inputs2.now)) (some g) }
-{
-    let read = gate.reads();
-    match read {
-        Read::Input { desk, number, sort } => {
-            input_passes(check, inputs1, inputs2, desk, number, sort)
+    // The input that is read is there.
+    #[tactic(auto, using(crate::proofs::InputLaws::desk_length))]
+    pub fn has(&self, read: Read) -> bool
+        ensures { result ≡ ltb read.number (length (of_desk (words self.now.one.now) (words self.now.two.now) read.desk)) }
+    {
+        (read.number as usize) < self.of_desk(read.desk).len() / 4
+    }
+
+    // The input that is read; past the desk's last, 0.
+    #[tactic(auto, using(crate::proofs::InputLaws::desk_length, crate::proofs::InputLaws::inputs_is, crate::proofs::InputLaws::inputs_none))]
+    pub fn word(&self, read: Read) -> u32
+        ensures { result ≡ inputs (words self.now.one.now) (words self.now.two.now) read.desk read.number }
+    {
+        if self.has(read) {
+            words::get(self.of_desk(read.desk), read.number as usize)
+        } else {
+            0
         }
-        Read::Nothing => true,
     }
 }
 
-// The lowest gate that fails the check, or the number of gates, of a circuit that passes check 21.
-pub fn lowest_failing(check: InputCheck, circuit: &[u8], inputs1: &[u8], inputs2: &[u8]) -> usize
-    requires { failing21 (words circuit.now) ≡ [] }
-    ensures { Found (failing_of check (words circuit.now) (words inputs1.now) (words inputs2.now))
-        (length circuit.now / 20) result }
+// The lowest gate that reads an input that does not pass, of a circuit that passes check 20.
+pub fn lowest_failing<F: Fn(Read) -> bool>(circuit: &[u8], passes: F) -> Option<u32>
+    requires fits { T (circuit_fits circuit.now) }
+    requires callable { F.IsAlwaysCallable passes }
+    ensures { (ok : ℕ → ℕ → rules.Sort → Bool) → Tests (F.post passes) ok → Found ok (words circuit.now) result }
 {
-    let n = circuit.len() / 20;
-    let mut i: usize = 0;
-    while i < n {
-        let gate = gate_at(circuit, i);
-        if !passes(check, inputs1, inputs2, gate) {
-            return i;
+    for i in 0..circuit.len() / 20 {
+        let read = gate_at(circuit, i).and_then(|gate| gate.reads());
+        if !read.is_none_or(&passes) {
+            return Some(i as u32);
         }
-        i += 1;
     }
-    n
+    None
 }

@@ -3,17 +3,30 @@
 
 mod desks;
 mod inputs;
+mod memories;
 
+ghost use Rattle.std.specs.Prelude.{◌≡◌, T, OnOk, IfErr};
+ghost use Rattle.rules.specs.Gates.{circuit_fits};
 ghost use Rattle.rules.specs.Answers.{FitInputs};
-ghost use Rattle.evaluate.specs.Held.{GatesPass};
+ghost use Rattle.evaluate.specs.declared.Refusal.TheVariants.{GateBreaksRules};
+ghost use Rattle.evaluate.specs.InputChecks.{InputsRefused};
 ghost use Rattle.evaluate.specs.Promise.{answered, lent_with, Promise};
 
-use crate::desks::run;
-use crate::inputs::{InputCheck, lowest_failing};
-use circuit::checks::{Checked, check_gates, fits};
+use crate::desks::Run;
+use crate::inputs::{Inputs, lowest_failing};
+use crate::memories::Memories;
+use arrayvec::ArrayVec;
+use circuit::checks::{BrokenGate, check_gates, fits};
+
+// How many wires and outputs an accepted evaluation wrote.
+#[derive(Clone, Copy, Debug, PartialEq, Eq)]
+pub struct Accepted {
+    pub wires: u32,
+    pub outputs: u32,
+}
 
 // Why an evaluation is refused, with the lowest failing gate where one fails.
-#[derive(Clone, Copy)]
+#[derive(Clone, Copy, Debug, PartialEq, Eq)]
 pub enum Refusal {
     CircuitLength,
     GateBreaksRules { gate: u32 },
@@ -23,91 +36,31 @@ pub enum Refusal {
     MemoryShort,
 }
 
-#[derive(Clone, Copy)]
-pub enum Answer {
-    Accepted { wires: u32, outputs: u32 },
-    Refused { why: Refusal },
-}
+impl From<BrokenGate> for Refusal {
+    ghost from_gives = { λ broken why. why ≡ GateBreaksRules broken.gate };
 
-// Checks 24 and 25, and the run, once the gates and the inputs pass.
-fn after_inputs(
-    circuit: &[u8],
-    inputs1: &[u8],
-    inputs2: &[u8],
-    tape: &[u8],
-    sorts: &[u32; 3000],
-    wires: usize,
-    shares1: &mut [u8],
-    shares2: &mut [u8],
-    outputs: &mut [u8],
-) -> Answer
-    requires { GatesPass circuit.now sorts.now wires × FitInputs circuit.now inputs1.now inputs2.now }
-    ensures { Promise
-        (lent_with circuit.now inputs1.now inputs2.now tape.now
-        shares1.old shares2.old outputs.old)
-        (answered result) shares1.new shares2.new outputs.new }
-{
-    if tape.len() / 4 < wires {
-        return Answer::Refused {
-            why: Refusal::TapeShort,
-        };
-    }
-    // Each gate makes a wire or is an out.
-    let outs = circuit.len() / 20 - wires;
-    if (wires <= shares1.len() / 4) & ((wires <= shares2.len() / 4) & (outs <= outputs.len() / 4)) {
-        run(
-            circuit, inputs1, inputs2, tape, sorts, shares1, shares2, outputs,
-        );
-        Answer::Accepted {
-            wires: wires as u32,
-            outputs: outs as u32,
-        }
-    } else {
-        Answer::Refused {
-            why: Refusal::MemoryShort,
-        }
+    fn from(broken: BrokenGate) -> Refusal {
+        Refusal::GateBreaksRules { gate: broken.gate }
     }
 }
 
-// Checks 22 and 23, and what follows, once the gates pass.
-fn after_gates(
-    circuit: &[u8],
-    inputs1: &[u8],
-    inputs2: &[u8],
-    tape: &[u8],
-    sorts: &[u32; 3000],
-    wires: usize,
-    shares1: &mut [u8],
-    shares2: &mut [u8],
-    outputs: &mut [u8],
-) -> Answer
-    requires { GatesPass circuit.now sorts.now wires }
-    ensures { Promise
-        (lent_with circuit.now inputs1.now inputs2.now tape.now
-        shares1.old shares2.old outputs.old)
-        (answered result) shares1.new shares2.new outputs.new }
+// Checks 22 and 23, of a circuit that passes check 20.
+fn check_inputs(circuit: &[u8], inputs: &Inputs) -> Result<(), Refusal>
+    requires { T (circuit_fits circuit.now) }
+    ensures ok { OnOk result (FitInputs circuit.now inputs.now.one.now inputs.now.two.now) }
+    ensures err { IfErr result (InputsRefused circuit.now inputs.now.one.now inputs.now.two.now) }
 {
-    let n = circuit.len() / 20;
-    let missing = lowest_failing(InputCheck::Present, circuit, inputs1, inputs2);
-    if missing < n {
-        return Answer::Refused {
-            why: Refusal::InputMissing {
-                gate: missing as u32,
-            },
-        };
+    if let Some(gate) = lowest_failing(circuit, |read| inputs.has(read)) {
+        return Err(Refusal::InputMissing { gate });
     }
-    let wrong = lowest_failing(InputCheck::FitsSort, circuit, inputs1, inputs2);
-    if wrong < n {
-        return Answer::Refused {
-            why: Refusal::InputNoBool { gate: wrong as u32 },
-        };
+    if let Some(gate) = lowest_failing(circuit, |read| read.sort.holds(inputs.word(read))) {
+        return Err(Refusal::InputNoBool { gate });
     }
-    after_inputs(
-        circuit, inputs1, inputs2, tape, sorts, wires, shares1, shares2, outputs,
-    )
+    Ok(())
 }
 
 // The operation: any bytes get an answer, and a refusal writes nothing.
+// (What is lent comes one by one, as the C interface has it.)
 pub fn evaluate(
     circuit: &[u8],
     inputs1: &[u8],
@@ -116,25 +69,45 @@ pub fn evaluate(
     shares1: &mut [u8],
     shares2: &mut [u8],
     outputs: &mut [u8],
-) -> Answer
+) -> Result<Accepted, Refusal>
     ensures { Promise
         (lent_with circuit.now inputs1.now inputs2.now tape.now
         shares1.old shares2.old outputs.old)
         (answered result) shares1.new shares2.new outputs.new }
 {
     if !fits(circuit) {
-        return Answer::Refused {
-            why: Refusal::CircuitLength,
-        };
+        return Err(Refusal::CircuitLength);
     }
-    let mut sorts = [0u32; 3000];
-    let checked = check_gates(circuit, &mut sorts);
-    match checked {
-        Checked::Broken { gate } => Answer::Refused {
-            why: Refusal::GateBreaksRules { gate: gate },
-        },
-        Checked::Kept { wires } => after_gates(
-            circuit, inputs1, inputs2, tape, &sorts, wires, shares1, shares2, outputs,
-        ),
+    let mut sorts = ArrayVec::new();
+    check_gates(circuit, &mut sorts)?;
+    let wires = sorts.len();
+    let inputs = Inputs {
+        one: inputs1,
+        two: inputs2,
+    };
+    check_inputs(circuit, &inputs)?;
+    if tape.len() / 4 < wires {
+        return Err(Refusal::TapeShort);
     }
+    let mut memories = Memories {
+        one: shares1,
+        two: shares2,
+        outs: outputs,
+    };
+    // Each gate makes a wire or is an out.
+    let outs = circuit.len() / 20 - wires;
+    if !memories.have_room(wires, outs) {
+        return Err(Refusal::MemoryShort);
+    }
+    let run = Run {
+        circuit,
+        inputs,
+        tape,
+        sorts: sorts.as_slice(),
+    };
+    run.all_gates(&mut memories);
+    Ok(Accepted {
+        wires: wires as u32,
+        outputs: outs as u32,
+    })
 }

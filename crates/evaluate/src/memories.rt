@@ -1,0 +1,56 @@
+// The three lent memories: a share of each wire for either desk, and the outputs.
+ghost use Rattle.std.specs.Prelude.{◌≡◌, ◌&&◌, ◌+◌, ◌*◌, ◌/◌, ◌≤◌, leb, length, get_or};
+ghost use Rattle.words.specs.Words.{words};
+ghost use Rattle.rules.specs.Shares.{join};
+ghost use Rattle.circuit.specs.Sorts.{meant_sort};
+
+use circuit::gates::Wire;
+use circuit::sorts::Sort;
+
+#[derive(Drop)]
+pub struct Memories<'a> {
+    pub one: &'a mut [u8],
+    pub two: &'a mut [u8],
+    pub outs: &'a mut [u8],
+}
+
+impl Memories<'_> {
+    ghost use Rattle.evaluate.specs.Held.{SameMemories, HasPlaces, contents, with_shares, with_output};
+
+    // So many wires and outputs have their places.
+    pub fn have_room(&self, wires: usize, outs: usize) -> bool
+        ensures { result ≡ (leb wires (length self.now.one.now / 4)
+            && (leb wires (length self.now.two.now / 4) && leb outs (length self.now.outs.now / 4))) }
+    {
+        wires <= self.one.len() / 4 && wires <= self.two.len() / 4 && outs <= self.outs.len() / 4
+    }
+
+    // The value of a wire of this sort, joined of its two shares.
+    pub fn joined(&self, sort: Sort, wire: Wire) -> u32
+        requires { HasPlaces (contents self.now) wire.0 }
+        ensures { result ≡ join (meant_sort sort) (get_or (words self.now.one.now) wire.0 0) (get_or (words self.now.two.now) wire.0 0) }
+    {
+        let k = wire.0 as usize;
+        share::join(sort, words::get(self.one, k), words::get(self.two, k))
+    }
+
+    // A new wire of value v is shared with its tape word t.
+    pub fn deal(&mut self, sort: Sort, new: Wire, v: u32, t: u32)
+        requires { HasPlaces (contents self.old) new.0 }
+        ensures same { SameMemories self.old self.new }
+        ensures dealt { contents self.new ≡ with_shares (contents self.old) new.0 (meant_sort sort) v t }
+    {
+        let k = new.0 as usize;
+        words::put(self.one, k, share::share_one(sort, t));
+        words::put(self.two, k, share::share_two(sort, v, t));
+    }
+
+    // Output m is v.
+    pub fn put_out(&mut self, m: usize, v: u32)
+        requires { 4 * m + 4 ≤ length self.old.outs.now }
+        ensures same { SameMemories self.old self.new }
+        ensures put { contents self.new ≡ with_output (contents self.old) m v }
+    {
+        words::put(self.outs, m, v);
+    }
+}
