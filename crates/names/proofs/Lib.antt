@@ -7,6 +7,7 @@ pub mod WalkLaws
 pub mod DeclareLaws
 -- checks 6, 7 and 8: notes of rows from the lowest up, and what is known of a row before it is checked
 pub mod NoteLaws
+pub mod NotedLaws
 pub mod ToldLaws
 -- check 6: types, and inputs read at one type
 pub mod TypeLaws

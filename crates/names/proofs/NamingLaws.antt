@@ -1,8 +1,10 @@
 -- What a row does with a name, kind by kind: as its meaning says, so does what stands at the row.
 use Prim.Native.Nat.{ℕ, ◌<◌}
 use mathlib.Core.Path.{◌≡◌, refl, ap, ◌∙◌}
-use mathlib.Core.Option.{Option, none, some}
+use mathlib.Core.Option as rules
+use mathlib.Core.Option.{none, some}
 use mathlib.Core.List.{List}
+use Rattle.std.specs.Prelude.{Option, Some, None}
 use Rattle.rules.specs.Rows.{Name, Kind, unknown, is_e, is_s, of_number, of_truth, of_name, of_two, of_choose, of_element, of_input}
 use Rattle.rules.specs.Rows.{of_declare, of_assign, of_loop, of_write, of_branch, of_out, of_then, word, kind_at}
 use Rattle.rules.specs.Tree.{Expr, Stmt, expr_of, stmt_of, expr_at, stmt_at}
@@ -14,17 +16,14 @@ use Rattle.rows.proofs.Formed.{Formed, node_law}
 use Rattle.table.specs.Shapes.{as_kind}
 use Rattle.table.specs.Meaning.{meaning_of, meaning_at}
 use Rattle.names.specs.declared.naming.Naming.{Naming}
-use Rattle.names.specs.declared.naming.Naming.TheVariants.{Nothing, Reads, Binds, Stores}
-use Rattle.names.specs.Naming.{naming_of, is_declare, allowed_by}
+use Rattle.names.specs.Naming.{naming_of, is_declare, passes_by}
 use Rattle.names.specs.Declares.{name_of, found_by}
-use Rattle.names.specs.Walk.{row_k}
+use Rattle.names.specs.Sweep.{row_k}
 
--- the name of what a row does
-abbrev pub named_by : Naming → Option Name
-named_by Nothing = none
-named_by (Reads x) = some x
-named_by (Binds x) = some x
-named_by (Stores x) = some x
+-- the name in what a row does
+abbrev pub named_by : Option Naming → rules.Option Name
+named_by None = none
+named_by (Some naming) = some naming.name
 
 -- a kind with its row and its words a, b, c
 module _ (r a b c : ℕ) where
@@ -63,44 +62,29 @@ module _ (r a b c : ℕ) where
     abbrev made : Kind → Node
     made k = node_of k (expr_of k r a b c sub) (stmt_of k r a b c sub part)
 
-    -- it names what its meaning names
-    name_of_lem : (k : Kind) → name_of (made k) ≡ named_by (naming_of (meaning_of (as_kind k) a b c))
-    unfolding name_of expr_of stmt_of
-    name_of_lem unknown = refl
-    name_of_lem (is_e of_number) = refl
-    name_of_lem (is_e of_truth) = refl
-    name_of_lem (is_e of_name) = refl
-    name_of_lem (is_e (of_two o)) = refl
-    name_of_lem (is_e of_choose) = refl
-    name_of_lem (is_e of_element) = refl
-    name_of_lem (is_e of_input) = refl
-    name_of_lem (is_s of_declare) = refl
-    name_of_lem (is_s of_assign) = refl
-    name_of_lem (is_s of_loop) = refl
-    name_of_lem (is_s of_write) = refl
-    name_of_lem (is_s of_branch) = refl
-    name_of_lem (is_s of_out) = refl
-    name_of_lem (is_s of_then) = refl
+    -- it names what its meaning names, and check 5 is the rule for what its meaning does with that name
+    abbrev Names : Kind → Type 0
+    Names k =
+        let naming = naming_of (meaning_of (as_kind k) a b c) in
+        (name_of (made k) ≡ named_by naming) × ((sc : Scope) → named sc (made k) ≡ passes_by naming (found_by sc (named_by naming)))
 
-    -- and check 5 is the rule for what its meaning does with that name
-    named_of : (sc : Scope) (k : Kind)
-        → named sc (made k) ≡ allowed_by (naming_of (meaning_of (as_kind k) a b c)) (found_by sc (named_by (naming_of (meaning_of (as_kind k) a b c))))
-    unfolding named expr_of stmt_of
-    named_of sc unknown = refl
-    named_of sc (is_e of_number) = refl
-    named_of sc (is_e of_truth) = refl
-    named_of sc (is_e of_name) = refl
-    named_of sc (is_e (of_two o)) = refl
-    named_of sc (is_e of_choose) = refl
-    named_of sc (is_e of_element) = refl
-    named_of sc (is_e of_input) = refl
-    named_of sc (is_s of_declare) = refl
-    named_of sc (is_s of_assign) = refl
-    named_of sc (is_s of_loop) = refl
-    named_of sc (is_s of_write) = refl
-    named_of sc (is_s of_branch) = refl
-    named_of sc (is_s of_out) = refl
-    named_of sc (is_s of_then) = refl
+    names : (k : Kind) → Names k
+    unfolding name_of named expr_of stmt_of
+    names unknown = (refl, λ sc. refl)
+    names (is_e of_number) = (refl, λ sc. refl)
+    names (is_e of_truth) = (refl, λ sc. refl)
+    names (is_e of_name) = (refl, λ sc. refl)
+    names (is_e (of_two o)) = (refl, λ sc. refl)
+    names (is_e of_choose) = (refl, λ sc. refl)
+    names (is_e of_element) = (refl, λ sc. refl)
+    names (is_e of_input) = (refl, λ sc. refl)
+    names (is_s of_declare) = (refl, λ sc. refl)
+    names (is_s of_assign) = (refl, λ sc. refl)
+    names (is_s of_loop) = (refl, λ sc. refl)
+    names (is_s of_write) = (refl, λ sc. refl)
+    names (is_s of_branch) = (refl, λ sc. refl)
+    names (is_s of_out) = (refl, λ sc. refl)
+    names (is_s of_then) = (refl, λ sc. refl)
 
 -- a row of a table declares its name where its meaning is a declaration
 pub declare_at : (t : List ℕ) (r : ℕ) → is_declare (meaning_at t r) ≡ is_declared (some (known_at t r))
@@ -116,12 +100,12 @@ module _ {t : List ℕ} {n : ℕ} (f : Formed t n) (r : ℕ) (h : r < n) where
   -- a row names what its meaning names
   pub name_at : name_of (node_at t r) ≡ named_by (naming_of (meaning_at t r))
   unfolding meaning_at
-  name_at = ap name_of (node_law f r h) ∙ name_of_lem r (word t r 1) (word t r 2) (word t r 3) (expr_at t) (stmt_at t) (kind_at t r)
+  name_at = ap name_of (node_law f r h) ∙ (names r (word t r 1) (word t r 2) (word t r 3) (expr_at t) (stmt_at t) (kind_at t r)).0
 
   -- check 5 of a row goes by what its meaning does with a name
   pub check5_at : (d : ℕ) (sc : Scope)
-      → check5 (site d sc (node_at t r)) ≡ allowed_by (naming_of (meaning_at t r)) (found_by sc (named_by (naming_of (meaning_at t r))))
+      → check5 (site d sc (node_at t r)) ≡ passes_by (naming_of (meaning_at t r)) (found_by sc (named_by (naming_of (meaning_at t r))))
   unfolding check5 meaning_at
   check5_at d sc =
       ap (named sc) (node_law f r h)
-      ∙ named_of r (word t r 1) (word t r 2) (word t r 3) (expr_at t) (stmt_at t) sc (kind_at t r)
+      ∙ (names r (word t r 1) (word t r 2) (word t r 3) (expr_at t) (stmt_at t) (kind_at t r)).1 sc

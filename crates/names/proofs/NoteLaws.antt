@@ -1,93 +1,63 @@
--- What the notes of checks 6, 7 and 8 rest on: what the row that binds a name says of it, and notes of rows from the lowest up.
+-- What the notes of checks 6, 7 and 8 rest on: what the code knows of a row's name, and notes of rows from the lowest up.
 use Prim.Native.Nat.{ℕ, ◌+◌, ◌<◌}
-use mathlib.Core.Path.{◌≡◌, refl, ap, ◌∙◌, subst}
-use mathlib.Core.Bool.{Bool, true, false}
+use mathlib.Core.Path.{◌≡◌, refl, subst}
+use mathlib.Core.Bool.{cond}
 use mathlib.Core.Option.{Option, none, some}
 use mathlib.Core.List.{List}
-use lib.Dec.{T, eqb}
+use lib.Dec.{T}
 use lib.ListN.{length, get_or, set}
-use lib.Seq.{get_or-set_same, get_or-set_other}
-use borrow.Author.Tests.{eqb-true, eqb-false}
 use native.Mathlib.Omega.{arith}
+use Rattle.std.proofs.lemmas.Grind.{common_steps}
+use Rattle.std.specs.Prelude as code
 use Rattle.words.specs.Words.{words}
-use Rattle.rules.specs.Rows.{Kind, unknown, is_e, is_s, word, kind_at, is_expr}
-use Rattle.rules.specs.Rows.{of_declare, of_assign, of_loop, of_write, of_branch, of_out, of_then, of_number, of_truth, of_name, of_two, of_choose, of_element, of_input}
+use Rattle.rules.specs.Rows.{Kind, word, kind_at, is_expr}
 use Rattle.rules.specs.Tree.{Expr, expr_at}
-use Rattle.rules.specs.Scope.{Known, Scope, lookup, type_k, length_k}
-use Rattle.rules.specs.Names.{is_found, is_declared, named, check5}
-use Rattle.rules.specs.Counts.{count_k}
+use Rattle.rules.specs.Scope.{Known, declared, looped, Scope, type_found, length_found}
+use Rattle.rules.specs.Names.{named, check5}
+use Rattle.rules.specs.Counts.{count_found}
 use Rattle.rules.specs.Answers.{rows_of, failing5}
 use Rattle.rows.specs.Passed.{Passes}
 use Rattle.rows.specs.ByRow.{node_at, scope_at, known_of, known_at}
-use Rattle.rows.specs.Passed as rows
-use Rattle.rows.proofs.Table.{passes_fewer, rows_in_lem}
+use Rattle.rows.proofs.Table.{passes_fewer}
 use Rattle.rows.proofs.ByRows.{site_is, none_by_rows}
+use Rattle.table.specs.declared.row.Row.{Row}
 use Rattle.table.specs.Shapes.{as_kind}
-use Rattle.table.specs.Meaning.{type_number, meaning_of, meaning_at}
+use Rattle.table.specs.Meaning.{as_type, meaning_of, meaning_at}
 use Rattle.names.specs.Naming.{is_declare}
-use Rattle.names.specs.Declares.{name_of, found_by, Declares}
+use Rattle.names.specs.Declares.{known_by}
 use Rattle.names.specs.declared.notes.Given.{Given}
-use Rattle.names.specs.Notes.{given_with, given_by, NotedTo, CanNote}
+use Rattle.names.specs.Notes.{given_with, given_by, given_at, declaration_at, NotedTo, CanNote}
 
--- what a name that stands for k says: the number of its type, its length and what it counts
-abbrev said : Known → Given
-said k = given_with (type_number (type_k k)) (length_k k) (count_k k)
+-- what is said of a name that stands for q: its type, its length and what it counts
+abbrev pub said : Option Known → Given
+said q = given_with (as_type (type_found q)) (length_found q) (count_found q)
+
+-- the declaration that the name stands for
+abbrev pub declared_row : Option Known → code.Option Row
+declared_row none = code.None
+declared_row (some (declared d y n)) = code.Some (record { 0 = d })
+declared_row (some (looped d l)) = code.None
 
 -- What the binding row says of the name, by its kind and words,
-said_of : (k : Kind) (d a b c : ℕ) → said (known_of k d b c) ≡ given_by (meaning_of (as_kind k) a b c)
-said_of unknown d a b c = refl
-said_of (is_e of_number) d a b c = refl
-said_of (is_e of_truth) d a b c = refl
-said_of (is_e of_name) d a b c = refl
-said_of (is_e (of_two o)) d a b c = refl
-said_of (is_e of_choose) d a b c = refl
-said_of (is_e of_element) d a b c = refl
-said_of (is_e of_input) d a b c = refl
-said_of (is_s of_declare) d a b c = refl
-said_of (is_s of_assign) d a b c = refl
-said_of (is_s of_loop) d a b c = refl
-said_of (is_s of_write) d a b c = refl
-said_of (is_s of_branch) d a b c = refl
-said_of (is_s of_out) d a b c = refl
-said_of (is_s of_then) d a b c = refl
+said_of : (k : Kind) (d a b c : ℕ) → said (some (known_of k d b c)) ≡ given_by (meaning_of (as_kind k) a b c)
+said_of k d a b c = grind (arith, common_steps)
 
--- and whether it is declared.
-declared_of : (k : Kind) (d a b c : ℕ) → is_declared (some (known_of k d b c)) ≡ is_declare (meaning_of (as_kind k) a b c)
-declared_of unknown d a b c = refl
-declared_of (is_e of_number) d a b c = refl
-declared_of (is_e of_truth) d a b c = refl
-declared_of (is_e of_name) d a b c = refl
-declared_of (is_e (of_two o)) d a b c = refl
-declared_of (is_e of_choose) d a b c = refl
-declared_of (is_e of_element) d a b c = refl
-declared_of (is_e of_input) d a b c = refl
-declared_of (is_s of_declare) d a b c = refl
-declared_of (is_s of_assign) d a b c = refl
-declared_of (is_s of_loop) d a b c = refl
-declared_of (is_s of_write) d a b c = refl
-declared_of (is_s of_branch) d a b c = refl
-declared_of (is_s of_out) d a b c = refl
-declared_of (is_s of_then) d a b c = refl
+-- and which declaration it is.
+declared_of : (k : Kind) (d a b c : ℕ)
+    → declared_row (some (known_of k d b c)) ≡ cond (is_declare (meaning_of (as_kind k) a b c)) (code.Some (record { 0 = d })) code.None
+declared_of k d a b c = grind (arith, common_steps)
 
--- the same of row d of a table's words
-module _ (t : List ℕ) (d : ℕ) where
-  pub said_known : said (known_at t d) ≡ given_by (meaning_at t d)
+-- the same of the row of a table's words that binds the name, if there is one
+module _ (t : List ℕ) where
+  pub said_by : (binder : code.Option Row) → said (known_by t binder) ≡ given_at t binder
   unfolding known_at meaning_at
-  said_known = said_of (kind_at t d) d (word t d 1) (word t d 2) (word t d 3)
+  said_by code.None = refl
+  said_by (code.Some d) = said_of (kind_at t d.0) d.0 (word t d.0 1) (word t d.0 2) (word t d.0 3)
 
-  pub declared_known : is_declared (some (known_at t d)) ≡ is_declare (meaning_at t d)
+  pub declared_by : (binder : code.Option Row) → declared_row (known_by t binder) ≡ declaration_at t binder
   unfolding known_at meaning_at
-  declared_known = declared_of (kind_at t d) d (word t d 1) (word t d 2) (word t d 3)
-
--- what is found is something
-found_some : (o : Option Known) → T (is_found o) → (k : Known) × (o ≡ some k)
-found_some none h = absurd h
-found_some (some k) h = (k, refl)
-
--- what is declared is found
-pub declared_found : (o : Option Known) → T (is_declared o) → T (is_found o)
-declared_found none h = absurd h
-declared_found (some k) h = tt
+  declared_by code.None = refl
+  declared_by (code.Some d) = declared_of (kind_at t d.0) d.0 (word t d.0 1) (word t d.0 2) (word t d.0 3)
 
 module _ (table : List ℕ) (ok : Passes 5 table) where
   -- the first three checks are passed
@@ -106,40 +76,18 @@ module _ (table : List ℕ) (ok : Passes 5 table) where
   unfolding check5 failing5
   named_at r h = subst (λ s. T (check5 s)) (site_is table passes_three r h) (none_by_rows table passes_three check5 ok.1.1.1.1.0 r h)
 
-  module _ (decl : List ℕ) (declares : Declares table decl) (r : ℕ) (h : r < rows_of table) (x : ℕ) (name-is : name_of (node_at (words table) r) ≡ some x) where
-    -- the name of a row stands for what its noted row says, where it stands for something
-    pub stands_for_lem : T (is_found (lookup (scope_at table r) x)) → lookup (scope_at table r) x ≡ some (known_at (words table) (get_or decl r 0))
-    stands_for_lem found =
-        let (k, is) = found_some (lookup (scope_at table r) x) found in
-        is ∙ ap some (declares.stands r h k (ap (found_by (scope_at table r)) name-is ∙ is))
-
-module _ (f : Scope → Expr → ℕ) (table : List ℕ) where
+-- f is what is noted of an expression, and `blank` what is noted of none
+module _ {A : Type 0} (f : Scope → Expr → A) (blank : A) (table : List ℕ) where
   -- nothing is noted below row 0
-  pub noted_none : (notes : List ℕ) → NotedTo f table notes 0
-  noted_none notes r h = absurd (omega arith)
+  pub noted_none : (notes : List A) → NotedTo f blank table notes 0
+  noted_none notes r h = grind (arith, common_steps)
 
   -- one row more is noted
-  pub noted-next : (notes : List ℕ) (i v : ℕ) → NotedTo f table notes i → i < length notes
-      → (T (is_expr (kind_at (words table) i)) → v ≡ f (scope_at table i) (expr_at (words table) i)) → NotedTo f table (set notes i v) (i + 1)
-  noted-next notes i v lower room is r h e = go (eqb r i) refl
-    where
-      go : (b : Bool) → eqb r i ≡ b → get_or (set notes i v) r 0 ≡ f (scope_at table r) (expr_at (words table) r)
-      go true q =
-          let same : r ≡ i = eqb-true r i q in
-          rw same (get_or-set_same notes i v 0 room ∙ is (subst (λ k. T (is_expr (kind_at (words table) k))) same e))
-      go false q =
-          let other = eqb-false r i q in
-          get_or-set_other notes i r v 0 other ∙ lower r (omega (arith, h, other)) e
+  pub noted-next : (notes : List A) (i : ℕ) (v : A) → NotedTo f blank table notes i → i < length notes
+      → (T (is_expr (kind_at (words table) i)) → v ≡ f (scope_at table i) (expr_at (words table) i)) → NotedTo f blank table (set notes i v) (i + 1)
+  noted-next notes i v lower room is r h e = let before = lower r in grind (arith, common_steps)
 
-  -- what is noted of an expression in a row is its number in the row's scope
-  pub noted-part : {decl notes : List ℕ} {r : ℕ} → CanNote f table decl notes r → (w : ℕ) → w < r → T (is_expr (kind_at (words table) w))
-      → scope_at table w ≡ scope_at table r → get_or notes w 0 ≡ f (scope_at table r) (expr_at (words table) w)
-  noted-part can w low e same = can.lower w low e ∙ ap (λ sc. f sc (expr_at (words table) w)) same
-
--- a row whose parts are noted lies in the table, and so does the row that binds its name
-module _ {f : Scope → Expr → ℕ} {table decl notes : List ℕ} {r : ℕ} (can : CanNote f table decl notes r) where
-  pub row_in : rows.In table r
-  row_in = rows_in_lem table (passes_one table can.passes) r can.there
-
-  pub binder_in : rows.In table (get_or decl r 0)
-  binder_in = rows_in_lem table (passes_one table can.passes) (get_or decl r 0) (can.declares.inside r can.there)
+  -- what is noted of an expression in a row is f of it in the row's scope
+  pub noted-part : {notes : List A} {r : ℕ} → CanNote f blank table notes r → (w : ℕ) → w < r → T (is_expr (kind_at (words table) w))
+      → scope_at table w ≡ scope_at table r → get_or notes w blank ≡ f (scope_at table r) (expr_at (words table) w)
+  noted-part can w low e same = let noted = can.lower w low e in grind (arith, common_steps)

@@ -1,9 +1,9 @@
 -- Check 7 in code: the rule for an index and for a guard, kind by kind, where the secret rows are marked.
-use Rattle.std.proofs.Common.{ℕ, ◌<◌, ◌≡◌, refl, sym, ap, ◌∙◌, Bool, not, List, arith}
+use Rattle.std.proofs.Common.{ℕ, ◌<◌, ◌≡◌, refl, sym, ap, ◌∙◌, Bool, List, arith}
+use Rattle.std.proofs.lemmas.Grind.{common_steps}
 use Rattle.std.proofs.Math.Dec.{T}
 use Rattle.words.specs.Words.{words}
-use Rattle.rules.specs.Rows.{Kind, unknown, is_e, is_s, word, kind_at, is_expr, Field, within, expr, stmt, shape_of}
-use Rattle.rules.specs.Rows.{of_declare, of_assign, of_loop, of_write, of_branch, of_out, of_then, of_number, of_truth, of_name, of_two, of_choose, of_element, of_input}
+use Rattle.rules.specs.Rows.{Kind, word, kind_at, is_expr, Field, within, expr, stmt, shape_of}
 use Rattle.rules.specs.Tree.{row_e, expr_of, stmt_of, expr_at, stmt_at}
 use Rattle.rules.specs.Sites.{row_n, Site}
 use Rattle.rules.specs.Labels.{public, check7}
@@ -25,33 +25,19 @@ unfolding row_n node_at
 row_of_expr {t} f w h e = sym (ap row_n (node_expr (kind_at t w) (expr_at t w) (stmt_at t w) e)) ∙ node_row f w h
 
 -- the expression in a word is marked where it is in a set, if the word's field holds one
-abbrev MarkedIn : List ℕ → (ℕ → Bool) → List ℕ → Field → ℕ → Type 0
+abbrev MarkedIn : List ℕ → (ℕ → Bool) → List Bool → Field → ℕ → Type 0
 MarkedIn t S secret (within low high) w = Unit {0}
 MarkedIn t S secret expr w = marked secret w ≡ S (row_e (expr_at t w))
 MarkedIn t S secret stmt w = Unit {0}
 
-module _ (t : List ℕ) (r a b c : ℕ) (S : ℕ → Bool) (secret : List ℕ) where
+module _ (t : List ℕ) (r a b c : ℕ) (S : ℕ → Bool) (secret : List Bool) where
   -- check 7 of a row of a kind
   public_of_kind : (k : Kind) → MarkedIn t S secret (shape_of k).a a → MarkedIn t S secret (shape_of k).b b
       → public_by (meaning_of (as_kind k) a b c) secret ≡ public S (node_with t r k a b c)
   unfolding public expr_of stmt_of
-  public_of_kind unknown first second = refl
-  public_of_kind (is_e of_number) first second = refl
-  public_of_kind (is_e of_truth) first second = refl
-  public_of_kind (is_e of_name) first second = refl
-  public_of_kind (is_e (of_two o)) first second = refl
-  public_of_kind (is_e of_choose) first second = refl
-  public_of_kind (is_e of_element) first second = ap not second
-  public_of_kind (is_e of_input) first second = refl
-  public_of_kind (is_s of_declare) first second = refl
-  public_of_kind (is_s of_assign) first second = refl
-  public_of_kind (is_s of_loop) first second = refl
-  public_of_kind (is_s of_write) first second = ap not second
-  public_of_kind (is_s of_branch) first second = ap not first
-  public_of_kind (is_s of_out) first second = refl
-  public_of_kind (is_s of_then) first second = refl
+  public_of_kind k first second = grind (arith, common_steps)
 
-module _ (table secret : List ℕ) (ok : Passes 5 table) (labelled : Labelled table secret) (r : ℕ) (h : r < rows_of table) where
+module _ (table : List ℕ) (secret : List Bool) (ok : Passes 5 table) (labelled : Labelled table secret) (r : ℕ) (h : r < rows_of table) where
   abbrev t : List ℕ
   t = words table
 

@@ -1,90 +1,70 @@
 -- The search for a name: from the newest row of the stack backwards, as a lookup goes through the scope.
-use Prim.Native.Nat.{ℕ, zero, suc, ◌-◌, ◌≤◌}
-use mathlib.Core.Path.{◌≡◌, refl, sym, ap, ◌∙◌}
-use mathlib.Core.Bool.{cond}
-use mathlib.Core.Option.{some}
-use mathlib.Core.List.{List}
+use Prim.Native.Nat.{ℕ, ◌-◌, ◌<◌}
+use mathlib.Core.Path.{◌≡◌, refl}
+use mathlib.Core.Bool.{Bool, true, false, cond}
+use mathlib.Core.List.{List, [], ◌∷◌, ◌++◌, map}
 use lib.Dec.{eqb}
-use lib.ListN.{get_or}
-use native.Mathlib.Numerals.{sub-one}
+use lib.ListN.{length, get_or}
+use borrow.Author.Tests.{ne_eqb}
 use native.Mathlib.Omega.{arith}
-use borrow.Author.Tests.{eq-eqb, ne_eqb}
+use mathlib.Core.Option as rules
+use mathlib.Core.Option.{some}
+use Rattle.std.specs.Prelude.{Option, Some, find, reverse, All, IfSome}
+use Rattle.std.proofs.lemmas.List.{get_or_append_left, get_or-reverse, length-append, length-reverse, reverse-append}
+use Rattle.std.proofs.lemmas.List.Elements.{All-tail}
 use Rattle.words.specs.Words.{words}
 use Rattle.rules.specs.Rows.{Name, word}
-use Rattle.rules.specs.Scope.{lookup}
-use Rattle.rules.specs.Names.{is_found}
-use Rattle.rows.specs.Passed.{Passes, In}
-use Rattle.rows.specs.ByRow.{known_at}
-use Rattle.rows.proofs.Table.{rows_whole}
-use Rattle.names.specs.declared.naming.Naming.{Naming}
-use Rattle.names.specs.declared.naming.Naming.TheVariants.{Nothing, Reads, Binds, Stores}
-use Rattle.names.specs.declared.search.Found.{Found}
-use Rattle.names.specs.declared.search.Found.TheVariants.{At, Nowhere}
-use Rattle.names.specs.Naming.{meant_found, is_at, row_found}
-use Rattle.names.specs.Declares.{found_by}
-use Rattle.names.specs.Stack.{scope_of, FoundIn, Searched, SearchedFor}
-use Rattle.names.specs.Walk.{place_of, InTable}
-use Rattle.names.proofs.NamingLaws.{named_by, row_known}
+use Rattle.rules.specs.Scope.{Known, lookup}
+use Rattle.rows.specs.Passed.{In}
+use Rattle.rows.specs.ByRow.{binding_at, known_at}
+use Rattle.table.specs.declared.row.Row.{Row}
+use Rattle.names.specs.Declares.{known_by}
+use Rattle.names.specs.Stack.{scope_of, found_in, Stacked}
 
--- a search for x that has come down to the first i of k rows: the name is not among the others
-pub record Searching (table stack : List ℕ) (k : ℕ) (x : Name) (i : ℕ) : Type 0 where
-  pub within : i ≤ k
-  pub same : lookup (scope_of (words table) stack k) x ≡ lookup (scope_of (words table) stack i) x
+-- a name stands for what the first of some rows that binds it makes of it
+lookup_first : (t : List ℕ) (x : Name) (rows : List Row)
+    → known_by t (find (λ row. eqb (word t row.0 1) x) rows) ≡ lookup (map (λ row. binding_at t row.0) rows) x
+unfolding lookup
+lookup_first t x [] = refl
+lookup_first t x (row ∷ rows) = go (eqb (word t row.0 1) x) _ _ (lookup_first t x rows)
+  where
+    go : (b : Bool) (found : Option Row) (known : rules.Option Known) → known_by t found ≡ known
+        → known_by t (cond b (Some row) found) ≡ cond b (some (known_at t row.0)) known
+    go true found known rest = refl
+    go false found known rest = rest
 
--- a lookup in the scope of i rows asks the last of them first
-lookup_last : (t stack : List ℕ) (x : Name) (i : ℕ) → (i ≡ 0 → ⊥)
-    → lookup (scope_of t stack i) x
-    ≡ cond (eqb (word t (get_or stack (i - 1) 0) 1) x) (some (known_at t (get_or stack (i - 1) 0))) (lookup (scope_of t stack (i - 1)) x)
-unfolding scope_of lookup
-lookup_last t stack x zero some_left = absurd (some_left refl)
-lookup_last t stack x (suc i) some_left = rw sub-one
+-- so the search in a stack finds what a name stands for in its scope
+pub known_found : (t : List ℕ) (stack : List Row) (x : Name) → known_by t (found_in t stack x) ≡ lookup (scope_of t stack) x
+unfolding scope_of
+known_found t stack x = lookup_first t x (reverse stack)
 
-module _ {table stack : List ℕ} {k : ℕ} {x : Name} {i : ℕ} (at : Searching table stack k x i) where
-  -- where no row is left, the name is nowhere
-  pub search_ends : i ≡ 0 → Searched table stack k x Nowhere
-  unfolding scope_of lookup
-  search_ends none_left = record { is = sym (at.same ∙ ap (λ (n : ℕ). lookup (scope_of (words table) stack n) x) none_left); inside = tt }
+-- a row that does not bind the name is passed
+pub found_before : (t : List ℕ) {stack : List Row} (older : List Row) (row : Row) (x : Name) → stack ≡ older ++ row ∷ []
+    → (word t row.0 1 ≡ x → ⊥) → found_in t older x ≡ found_in t stack x
+found_before t older row x is other = rw (is, reverse-append older (row ∷ []), ne_eqb (word t row.0 1) x other) refl
 
-  -- a row that does not bind the name is passed
-  pub search_passes : (i ≡ 0 → ⊥) → (word (words table) (get_or stack (i - 1) 0) 1 ≡ x → ⊥) → Searching table stack k x (i - 1)
-  search_passes some_left other =
-      let step = lookup_last (words table) stack x i some_left in
-      record { within = omega (arith, at.within); same = at.same ∙ (step ∙ rw (ne_eqb (word (words table) (get_or stack (i - 1) 0) 1) x other)) }
+-- what holds of all elements of a list holds of the first of them
+pub All-front : {X : Type 0} (P : X → Type 0) (xs ys : List X) → All P (xs ++ ys) → All P xs
+All-front P xs ys all = λ k d l.
+    let same : get_or (xs ++ ys) k d ≡ get_or xs k d = get_or_append_left xs ys d k l in
+    rw same at (all k d (omega (arith, length-append xs ys)))
 
-  -- a row that binds it is what it stands for
-  pub search_finds : (i ≡ 0 → ⊥) → word (words table) (get_or stack (i - 1) 0) 1 ≡ x → In table (get_or stack (i - 1) 0)
-      → Searched table stack k x (At (record { 0 = get_or stack (i - 1) 0 }))
-  search_finds some_left binds there =
-      let step = lookup_last (words table) stack x i some_left in
-      record { is = sym (at.same ∙ (step ∙ rw (eq-eqb (word (words table) (get_or stack (i - 1) 0) 1) x binds))); inside = there }
+-- and of them from the last on
+pub All-reverse : {X : Type 0} (P : X → Type 0) (xs : List X) → All P xs → All P (reverse xs)
+All-reverse P xs all = λ k d l.
+    let inside : k < length xs = omega (arith, length-reverse xs) in
+    rw (get_or-reverse xs k d inside) (all (length xs - 1 - k) d (omega arith))
 
--- a search that has ended somewhere has found something
-pub at_found : (t : List ℕ) (found : Found) → is_at found ≡ is_found (meant_found t found)
-at_found t (At row) = refl
-at_found t Nowhere = refl
+-- and of one that is found among them
+IfSome-find : {X : Type 0} (P : X → Type 0) (p : X → Bool) (xs : List X) → All P xs → IfSome (find p xs) P
+IfSome-find P p [] all = tt
+IfSome-find {X} P p (x ∷ xs) all = go (p x) _ (all 0 x (omega arith)) (IfSome-find P p xs (All-tail P x xs all))
+  where
+    go : (b : Bool) (found : Option X) → P x → IfSome found P → IfSome (cond b (Some x) found) P
+    go true found here rest = here
+    go false found here rest = rest
 
--- what is noted of a search is the row that binds what is found
-pub place_found : (t : List ℕ) (found : Found) → row_found found ≡ place_of (meant_found t found)
-place_found t (At row) = sym (row_known t row.0)
-place_found t Nowhere = refl
-
-module _ (table stack : List ℕ) (k : ℕ) (found : Found) where
-  -- the search for a row's name finds what the name stands for
-  pub searched_name : (naming : Naming) → SearchedFor table stack k naming found
-      → meant_found (words table) found ≡ found_by (scope_of (words table) stack k) (named_by naming)
-  searched_name Nothing s = ap (meant_found (words table)) s
-  searched_name (Reads x) s = s.is
-  searched_name (Binds x) s = s.is
-  searched_name (Stores x) s = s.is
-
-  -- and what it finds is a row of the table
-  pub searched_inside : (naming : Naming) → SearchedFor table stack k naming found → FoundIn table found
-  searched_inside Nothing s = rw s tt
-  searched_inside (Reads x) s = s.inside
-  searched_inside (Binds x) s = s.inside
-  searched_inside (Stores x) s = s.inside
-
--- a row that is found is what the table says at it
-pub found_in_table : (table : List ℕ) (found : Found) → Passes 1 table → FoundIn table found → InTable table (meant_found (words table) found)
-found_in_table table (At row) ok there = rw (row_known (words table) row.0) (omega (arith, rows_whole table ok), refl)
-found_in_table table Nowhere ok there = tt
+-- what a search finds is a row of the table
+pub found_inside : (table : List ℕ) (stack : List Row) (x : Name) → Stacked table stack → IfSome (found_in (words table) stack x) (λ row. In table row.0)
+found_inside table stack x stacked =
+    IfSome-find (λ row. In table row.0) (λ row. eqb (word (words table) row.0 1) x) (reverse stack) (All-reverse (λ row. In table row.0) stack stacked)

@@ -1,42 +1,47 @@
 -- The walk of check 5: sites that have been looked at one after another.
-use Prim.Native.Nat.{ℕ, suc, ◌≤◌, ◌<◌}
+use Prim.Native.Nat.{ℕ, suc, ◌+◌, ◌*◌, ◌≤◌, ◌<◌, min}
 use mathlib.Core.Path.{◌≡◌, refl, sym, ap, ◌∙◌}
 use mathlib.Core.Logic.{inl, inr}
 use mathlib.Core.Bool.{Bool, true, false}
 use mathlib.Core.List.{List, [], ◌∷◌, ◌++◌, append-nil, append_assoc}
-use lib.Dec.{T}
-use lib.ListN.{length, get_or, set, length-set}
+use lib.ListN.{set}
 use native.Mathlib.Omega.{arith}
+use Rattle.std.specs.Prelude.{Option, Some, None, IfSome, MatchOption}
+use Rattle.std.proofs.lemmas.Bool.{cases_lt}
+use Rattle.std.proofs.lemmas.List.Elements.{All-append, All-cons, All-nil}
 use Rattle.words.specs.Words.{words}
 use Rattle.rules.specs.Places.{fault}
 use Rattle.rules.specs.Rows as rules
-use Rattle.rules.specs.Rows.{kinds, word, kind_at, shape_of, is_expr}
-use Rattle.rules.specs.Scope.{Scope}
+use Rattle.rules.specs.Rows.{word, kind_at, shape_of, is_expr}
 use Rattle.rules.specs.Sites.{Site, site, row_n, failing}
 use Rattle.rules.specs.Names.{check5}
-use Rattle.rules.specs.Answers.{rows_of}
 use Rattle.rules.specs.Refusals.{In, Lowest}
 use Rattle.rules.proofs.Places.{in_either, in_left, in_right, in_none}
 use Rattle.rows.specs.Passed as rows
 use Rattle.rows.specs.ByRow.{node_at}
-use Rattle.rows.specs.Heads.{expr_in, heads}
-use Rattle.rows.proofs.Table.{passes_fewer, rows_few, rows_in_lem}
+use Rattle.rows.specs.Heads.{heads}
+use Rattle.rows.proofs.Table.{passes_fewer, rows_few, rows_whole, rows_in_lem}
 use Rattle.rows.proofs.Formed.{Holds, fields, formed, node_row}
 use Rattle.rows.proofs.Heads.{expr_heads}
+use Rattle.table.specs.declared.row.Row.{Row}
 use Rattle.table.specs.declared.shapes.Field.{Field}
-use Rattle.table.specs.declared.shapes.Shape.{Shape}
-use Rattle.table.specs.declared.checks.Check.{Check}
-use Rattle.table.specs.Shapes.{as_field, meant_field, as_shape}
+use Rattle.table.specs.declared.shapes.Field.TheVariants.{Within, Child}
+use Rattle.table.specs.declared.shapes.Sort.TheVariants.{Expr, Stmt}
+use Rattle.table.specs.declared.shapes.RowWords.{RowWords}
+use Rattle.table.specs.Shapes.{as_field, row_words}
 use Rattle.table.specs.Meaning.{meaning_at}
-use Rattle.table.specs.Checks.{Finds}
+use Rattle.table.proofs.RowShapeLaws.{meant_field_lem}
 use Rattle.names.specs.declared.naming.Naming.{Naming}
-use Rattle.names.specs.declared.search.Found.{Found}
-use Rattle.names.specs.Naming.{naming_of, meant_found, row_found, allowed_by}
-use Rattle.names.specs.Declares.{found_by}
-use Rattle.names.specs.Stack.{scope_of, SearchedFor}
-use Rattle.names.specs.Walk.{place_of, stands_for, noted, AllInTable, Swept, CanLook, PartIn}
-use Rattle.names.proofs.NamingLaws.{named_by, name_at, check5_at}
-use Rattle.names.proofs.SearchLaws.{place_found, searched_name, searched_inside, found_in_table}
+use Rattle.names.specs.declared.scope.Walk.{Walk}
+use Rattle.names.specs.Naming.{naming_of, passes_by}
+use Rattle.names.specs.Declares.{found_by, known_by}
+use Rattle.names.specs.Stack.{scope_of, binder_in, Stacked}
+use Rattle.names.specs.Sweep.{binder_of, stands_for, noted, InTable, LowestOf, Swept}
+use Rattle.names.specs.Walk.{words_of, scope_in, row_sites, head_sites, part_sites, CanLook, CanPart, Looked}
+use Rattle.names.proofs.NamingLaws.{named_by, name_at, check5_at, row_known}
+use Rattle.names.proofs.SearchLaws.{known_found, found_inside}
+
+-- Lists of sites.
 
 -- the failing rows of two lists after one another are those of the first and those of the second
 failing-append : (ok : Site → Bool) (xs ys : List Site) → failing ok (xs ++ ys) ≡ failing ok xs ++ failing ok ys
@@ -46,42 +51,20 @@ failing-append ok (x ∷ xs) ys =
     rw (failing-append ok xs ys) (sym (append_assoc (fault (ok x) (row_n x.node)) (failing ok xs) (failing ok ys)))
 
 -- the names of two lists are noted one list after the other
-noted-append : (xs ys : List Site) (decl : List ℕ) → noted (xs ++ ys) decl ≡ noted ys (noted xs decl)
+noted-append : (xs ys : List Site) (binders : List (Option Row)) → noted (xs ++ ys) binders ≡ noted ys (noted xs binders)
 unfolding noted
-noted-append [] ys decl = refl
-noted-append (x ∷ xs) ys decl = noted-append xs ys _
-
--- the names of both lists are in the table
-in_table_append : (table : List ℕ) (xs ys : List Site) → AllInTable table xs → AllInTable table ys → AllInTable table (xs ++ ys)
-in_table_append table [] ys p q = q
-in_table_append table (x ∷ xs) ys p q = (p.0, in_table_append table xs ys p.1 q)
-
--- no sites are swept by doing nothing
-pub swept_none : {table decl : List ℕ} {check : Check} → Swept table [] decl decl check check
-unfolding failing noted
-swept_none = record { finds = λ ps found. rw append-nil found; decl_is = refl; in_table = tt }
+noted-append [] ys binders = refl
+noted-append (x ∷ xs) ys binders = noted-append xs ys _
 
 -- two lists of sites are swept one after the other
-pub swept_append : {table : List ℕ} {xs ys : List Site} {decl decl' decl'' : List ℕ} {check check' check'' : Check}
-    → Swept table xs decl decl' check check' → Swept table ys decl' decl'' check' check'' → Swept table (xs ++ ys) decl decl'' check check''
-swept_append {table} {xs} {ys} {decl} one two = record {
+pub swept_append : {table : List ℕ} {xs ys : List Site} {b b' b'' : List (Option Row)} {l l' l'' : Option Row}
+    → Swept table xs b b' l l' → Swept table ys b' b'' l' l'' → Swept table (xs ++ ys) b b'' l l''
+swept_append {table} {xs} {ys} {b} one two = record {
   finds = λ ps found. rw (failing-append check5 xs ys, ← append_assoc ps (failing check5 xs) (failing check5 ys))
       (two.finds (ps ++ failing check5 xs) (one.finds ps found));
-  decl_is = two.decl_is ∙ rw (noted-append xs ys decl) (ap (noted ys) one.decl_is);
-  in_table = in_table_append table xs ys one.in_table two.in_table;
+  noted_is = two.noted_is ∙ rw (noted-append xs ys b) (ap (noted ys) one.noted_is);
+  in_table = All-append (λ s. InTable table (stands_for s)) xs ys one.in_table two.in_table;
 }
-
--- noting names leaves the length
-noted-length : (ss : List Site) (decl : List ℕ) → length (noted ss decl) ≡ length decl
-unfolding noted
-noted-length [] decl = refl
-noted-length (s ∷ ss) decl =
-    noted-length ss (set decl (row_n s.node) (place_of (stands_for s))) ∙ length-set decl (row_n s.node) (place_of (stands_for s))
-
--- so a sweep leaves it
-pub swept_length : {table : List ℕ} {ss : List Site} {decl decl' : List ℕ} {check check' : Check} → Swept table ss decl decl' check check'
-    → length decl' ≡ length decl
-swept_length {table} {ss} {decl} swept = ap length swept.decl_is ∙ noted-length ss decl
 
 -- One row more that fails.
 
@@ -93,149 +76,221 @@ below_more p r ps below l q i = elim (in_either q ps (r ∷ []) i) [
   | inr (inr j) ↦ absurd j
 ]
 
--- the first failing row is the lowest
-pub lowest-first : (r : ℕ) (ps : List ℕ) → ps ≡ [] → Lowest r (ps ++ r ∷ [])
-lowest-first r ps none = record {
-  one_of = in_right r ps (r ∷ []) (inl refl);
-  below_all = below_more r r ps (λ q i. absurd (in_none q ps none i)) (omega arith);
+-- the lowest of failing rows is, with one row more, the smaller of the two, or the row where none failed before
+pub lowest_more : (lowest : Option Row) (row least : Row) → MatchOption lowest (least ≡ row) (λ other. least.0 ≡ min other.0 row.0)
+    → (ps : List ℕ) → LowestOf ps lowest → Lowest least.0 (ps ++ row.0 ∷ [])
+lowest_more None row least same ps none =
+    rw same (record {
+      one_of = in_right row.0 ps (row.0 ∷ []) (inl refl);
+      below_all = below_more row.0 row.0 ps (λ q i. absurd (in_none q ps none i)) (omega arith);
+    })
+lowest_more (Some other) row least smaller ps low = record {
+  one_of = elim (cases_lt other.0 row.0) [
+    | inl l ↦ let same : least.0 ≡ other.0 = omega arith in rw same (in_left other.0 ps (row.0 ∷ []) low.one_of)
+    | inr l ↦ let same : least.0 ≡ row.0 = omega arith in rw same (in_right row.0 ps (row.0 ∷ []) (inl refl))
+  ];
+  below_all = below_more least.0 row.0 ps (λ q i. omega (arith, low.below_all q i)) (omega arith);
 }
 
--- a failing row below the lowest is the lowest
-pub lowest_new : {p : ℕ} (r : ℕ) (ps : List ℕ) → Lowest p ps → r < p → Lowest r (ps ++ r ∷ [])
-lowest_new r ps low l = record {
-  one_of = in_right r ps (r ∷ []) (inl refl);
-  below_all = below_more r r ps (λ q i. omega (arith, low.below_all q i)) (omega arith);
-}
+-- What is found of a row.
 
--- and any other leaves the lowest
-pub lowest_old : {p : ℕ} (r : ℕ) (ps : List ℕ) → Lowest p ps → p ≤ r → Lowest p (ps ++ r ∷ [])
-lowest_old {p} r ps low l = record {
-  one_of = in_left p ps (r ∷ []) low.one_of;
-  below_all = below_more p r ps low.below_all l;
-}
+module _ (t : List ℕ) (stack : List Row) where
+  -- the row that is found binds what the name in the row stands for
+  stands_binder : (naming : Option Naming) → found_by (scope_of t stack) (named_by naming) ≡ known_by t (binder_in t stack naming)
+  stands_binder None = refl
+  stands_binder (Some naming) = sym (known_found t stack naming.name)
 
--- A row that can be looked at, what it does with a name, and where the search for that name ends.
-module _ {table stack decl : List ℕ} {k row : ℕ} (can : CanLook table stack decl k row) {naming : Naming} (found : Found)
-    (is : naming ≡ naming_of (meaning_at (words table) row)) (search : SearchedFor table stack k naming found)
+-- it is noted as what stands for the name
+binder_known : (t : List ℕ) (binder : Option Row) → binder_of (known_by t binder) ≡ binder
+binder_known t None = refl
+binder_known t (Some row) = ap (λ (r : ℕ). Some (record { 0 = r })) (row_known t row.0)
+
+-- it lies in the table
+pub binder_inside : (table : List ℕ) (stack : List Row) (naming : Option Naming) → Stacked table stack
+    → IfSome (binder_in (words table) stack naming) (λ row. rows.In table row.0)
+binder_inside table stack None stacked = tt
+binder_inside table stack (Some naming) stacked = found_inside table stack naming.name stacked
+
+-- and is what the table says at it
+binder_in_table : (table : List ℕ) (binder : Option Row) → rows.Passes 1 table → IfSome binder (λ row. rows.In table row.0)
+    → InTable table (known_by (words table) binder)
+binder_in_table table None ok there = tt
+binder_in_table table (Some row) ok there = rw (row_known (words table) row.0) (omega (arith, rows_whole table ok), refl)
+
+-- A row that can be looked at, what it does with a name, and the row that is found for that name in a stack.
+module _ {walk : Walk} {row : ℕ} (can : CanLook walk row) {naming : Option Naming} (is : naming ≡ naming_of (meaning_at (words_of walk) row))
+    {stack : List Row} (same : stack ≡ walk.scope.items) {binder : Option Row} (found : binder ≡ binder_in (words_of walk) stack naming)
   where
-    -- the table's words, and the scope of the stack
+    -- the table's words
     abbrev t : List ℕ
-    t = words table
+    t = words_of walk
 
-    abbrev sc : Scope
-    sc = scope_of t stack k
+    -- the row's name stands for what is found
+    stands_is : found_by (scope_in walk) (named_by naming) ≡ known_by t binder
+    stands_is = rw (← same, found) (stands_binder t stack naming)
 
-    -- the row's name stands for what the search finds
-    stands_is : found_by sc (named_by naming) ≡ meant_found t found
-    stands_is = sym (searched_name table stack k found naming search)
+    -- what is found lies in the table
+    pub found_in_table : IfSome binder (λ row. rows.In walk.table.now row.0)
+    found_in_table = rw found (binder_inside walk.table.now stack naming (rw same can.stacked))
 
     -- check 5 of the row is that of what is found
-    check_is : (d : ℕ) → check5 (site d sc (node_at t row)) ≡ allowed_by naming (meant_found t found)
+    check_is : (d : ℕ) → check5 (site d (scope_in walk) (node_at t row)) ≡ passes_by naming (known_by t binder)
     check_is d =
-        check5_at (formed table can.passes) row can.there d sc
-        ∙ rw (← is) (ap (allowed_by naming) stands_is)
+        check5_at (formed walk.table.now can.passes) row can.there d (scope_in walk)
+        ∙ rw (← is) (ap (passes_by naming) stands_is)
 
     -- looking at a row sweeps its site: noted is the row that is found, and the row fails where check 5 of what is found does
-    swept_row : (d : ℕ) {check check' : Check}
-        → ((ps : List ℕ) → Finds ps check → Finds (ps ++ fault (allowed_by naming (meant_found t found)) row) check')
-        → Swept table (site d sc (node_at t row) ∷ []) decl (set decl row (row_found found)) check check'
+    swept_row : (d : ℕ) {lowest : Option Row}
+        → ((ps : List ℕ) → LowestOf ps walk.lowest → LowestOf (ps ++ fault (passes_by naming (known_by t binder)) row) lowest)
+        → Swept walk.table.now (row_sites walk row d) walk.binders.now (set walk.binders.now row binder) walk.lowest lowest
     unfolding failing noted
     swept_row d finds =
-        let at_row = node_row (formed table can.passes) row can.there in
-        let name-is = name_at (formed table can.passes) row can.there in
-        let inside = searched_inside table stack k found naming search in
+        let shaped = formed walk.table.now can.passes in
+        let at_row = node_row shaped row can.there in
+        let name_is = name_at shaped row can.there in
         record {
           finds = λ ps before. rw (check_is d, at_row, append-nil) (finds ps before);
-          decl_is = rw (at_row, name-is, ← is, stands_is) (ap (set decl row) (place_found t found));
-          in_table = (rw (name-is, ← is, stands_is) (found_in_table table found (passes_fewer table 1 can.passes) inside), tt);
+          noted_is = rw (at_row, name_is, ← is, stands_is, binder_known t binder) refl;
+          in_table = All-cons (λ s. InTable walk.table.now (stands_for s)) (site d (scope_in walk) (node_at t row)) []
+              (rw (name_is, ← is, stands_is) (binder_in_table walk.table.now binder (passes_fewer walk.table.now 1 can.passes) found_in_table))
+              (All-nil (λ s. InTable walk.table.now (stands_for s)));
         }
 
-    -- a row that passes leaves what the check finds
-    pub swept_passing : (d : ℕ) (check : Check) → allowed_by naming (meant_found t found) ≡ true
-        → Swept table (site d sc (node_at t row) ∷ []) decl (set decl row (row_found found)) check check
+    -- a row that passes leaves the lowest
+    pub swept_passing : (d : ℕ) → passes_by naming (known_by t binder) ≡ true
+        → Swept walk.table.now (row_sites walk row d) walk.binders.now (set walk.binders.now row binder) walk.lowest walk.lowest
     unfolding fault
-    swept_passing d check passes = swept_row d λ ps before. rw (passes, append-nil) before
+    swept_passing d passes = swept_row d λ ps before. rw (passes, append-nil) before
 
-    -- a row that fails is one more that the check finds
-    pub swept_failing : (d : ℕ) {check check' : Check} → allowed_by naming (meant_found t found) ≡ false
-        → ((ps : List ℕ) → Finds ps check → Finds (ps ++ row ∷ []) check')
-        → Swept table (site d sc (node_at t row) ∷ []) decl (set decl row (row_found found)) check check'
+    -- a row that fails counts towards the lowest
+    pub swept_failing : (d : ℕ) {lowest : Option Row} → passes_by naming (known_by t binder) ≡ false
+        → ((ps : List ℕ) → LowestOf ps walk.lowest → LowestOf (ps ++ row ∷ []) lowest)
+        → Swept walk.table.now (row_sites walk row d) walk.binders.now (set walk.binders.now row binder) walk.lowest lowest
     unfolding fault
     swept_failing d fails finds = swept_row d λ ps before. rw fails (finds ps before)
 
 -- The expressions in a row.
 
--- a field in code means the field that it was made of
-meant_field_lem : (f : rules.Field) → meant_field (as_field f) ≡ f
-meant_field_lem (rules.within low high) = refl
-meant_field_lem rules.expr = refl
-meant_field_lem rules.stmt = refl
+-- the measure of a word: where its field is an expression, it lies between that of the expression's row and those of higher rows
+abbrev pub part_measure : ℕ → Field → ℕ
+part_measure w (Child Expr) = 2 * w + 2
+part_measure w _ = 0
 
--- the shape that is read of a row's first word is that of its kind
-pub shape_at : (t : List ℕ) (r w : ℕ) (s : Shape) → w ≡ word t r 0 → s ≡ as_shape (get_or kinds w rules.unknown) → s ≡ as_shape (kind_at t r)
-unfolding kind_at
-shape_at t r w s e is = is ∙ ap (λ (k : ℕ). as_shape (get_or kinds k rules.unknown)) e
+-- a word of a row can be walked
+pub record PartOf (walk : Walk) (row w : ℕ) (field : Field) : Type 0 where
+  pub can : CanPart walk w field
+  pub lower : part_measure w field < 2 * row + 1
 
--- a word that is as its field says, and has been read, can be walked
-part_in : (t : List ℕ) (r w v : ℕ) (f : rules.Field) → Holds t r v f → w ≡ v → PartIn t r w (as_field f)
-part_in t r w v (rules.within low high) h e = tt
-part_in t r w v rules.expr h e = rw e h
-part_in t r w v rules.stmt h e = tt
+-- A row that can be looked at lies in the table,
+module _ {walk : Walk} {row : ℕ} (can : CanLook walk row) where
+  pub look_in : rows.In walk.table.now row
+  look_in = rows_in_lem walk.table.now (passes_fewer walk.table.now 1 can.passes) row can.there
 
--- the three words of a row can be walked when they have been read
-pub record Parts (t : List ℕ) (r : ℕ) (s : Shape) : Type 0 where
-  pub a : (w : ℕ) → w ≡ word t r 1 → PartIn t r w s.2
-  pub b : (w : ℕ) → w ≡ word t r 2 → PartIn t r w s.3
-  pub c : (w : ℕ) → w ≡ word t r 3 → PartIn t r w s.4
-
-module _ {table stack decl : List ℕ} {k row : ℕ} (can : CanLook table stack decl k row) where
-  -- a row that can be looked at lies in the table,
-  pub look_in : rows.In table row
-  look_in = rows_in_lem table (passes_fewer table 1 can.passes) row can.there
-
-  -- and its number is below 1,024
+  -- and its number is below 1,024.
   pub look_few : row < 1024
-  look_few = omega (arith, rows_few table (passes_fewer table 1 can.passes), can.there)
+  look_few = omega (arith, rows_few walk.table.now (passes_fewer walk.table.now 1 can.passes), can.there)
 
-  -- another row can be looked at too, with another list of the same length
-  pub look_at : {decl' : List ℕ} (row' : ℕ) → length decl' ≡ length decl → row' < rows_of table → CanLook table stack decl' k row'
-  look_at row' same there = record { passes = can.passes; stacked = can.stacked; decl_long = same ∙ can.decl_long; there = there }
+  -- A row below it can be looked at too,
+  look_lower : (w : ℕ) → w < row → CanLook walk w
+  look_lower w lower = record { passes = can.passes; stacked = can.stacked; there = omega (arith, lower, can.there) }
 
-  -- its words can be walked by the shape of its kind
-  pub parts : (s : Shape) → s ≡ as_shape (kind_at (words table) row) → Parts (words table) row s
-  parts s is =
-      let t = words table in
-      let f = fields (formed table can.passes) row can.there (kind_at t row) refl in
-      rw is (record {
-        a = λ w. part_in t row w (word t row 1) (shape_of (kind_at t row)).a f.a_is;
-        b = λ w. part_in t row w (word t row 2) (shape_of (kind_at t row)).b f.b_is;
-        c = λ w. part_in t row w (word t row 3) (shape_of (kind_at t row)).c f.c_is;
-      })
+  -- a word that is as its field says can be walked,
+  part_of : (w : ℕ) (f : rules.Field) → Holds (words_of walk) row w f → PartOf walk row w (as_field f)
+  part_of w (rules.within low high) h = record { can = tt; lower = omega arith }
+  part_of w rules.expr h = record { can = (look_lower w h.0, h.1); lower = omega (arith, h.0) }
+  part_of w rules.stmt h = record { can = tt; lower = omega arith }
 
-  -- the expression in a word is swept as the row that the word holds
-  pub swept_part : (d : ℕ) (sc : Scope) (w : ℕ) → (w < row) × T (is_expr (kind_at (words table) w)) → {decl decl' : List ℕ} {check check' : Check}
-      → Swept table (heads (words table) (suc d) sc w) decl decl' check check'
-      → Swept table (expr_in (words table) d sc rules.expr w) decl decl' check check'
-  swept_part d sc w part swept =
-      rw (expr_heads (formed table can.passes) (suc d) sc w (omega (arith, part.0, can.there)) part.1) swept
+  -- and so can the three of the row.
+  pub parts : {read : RowWords} → read ≡ row_words (words_of walk) row
+      → PartOf walk row read.a read.shape.a × PartOf walk row read.b read.shape.b × PartOf walk row read.c read.shape.c
+  parts is =
+      let t = words_of walk in
+      let k = shape_of (kind_at t row) in
+      let says = fields (formed walk.table.now can.passes) row can.there (kind_at t row) refl in
+      rw is (part_of (word t row 1) k.a says.a_is, part_of (word t row 2) k.b says.b_is, part_of (word t row 3) k.c says.c_is)
 
--- a row of a table's words at depth d in the scope sc
-module _ (t : List ℕ) (d : ℕ) (sc : Scope) where
-  -- the expression in a word, where its field is one
-  abbrev within : Field → ℕ → List Site
-  within f w = expr_in t d sc (meant_field f) w
+-- a row and then the expressions in its words are its heads
+heads_are : (walk : Walk) (row : ℕ) {read : RowWords} → read ≡ row_words (words_of walk) row → (d : ℕ)
+    → row_sites walk row d ++ (part_sites walk read.shape.a read.a d ++ (part_sites walk read.shape.b read.b d ++ part_sites walk read.shape.c read.c d))
+    ≡ head_sites walk row d
+unfolding heads
+heads_are walk row is d =
+    let f = shape_of (kind_at (words_of walk) row) in
+    rw (is, meant_field_lem f.a, meant_field_lem f.b, meant_field_lem f.c) refl
 
-  -- its shape and its words a, b and c as the code has read them
-  module _ (r : ℕ) {s : Shape} {a b c : ℕ} (is : s ≡ as_shape (kind_at t r)) (p : a ≡ word t r 1) (q : b ≡ word t r 2) (u : c ≡ word t r 3) where
-    -- the row and then the expressions in its words are its heads
-    heads_are : (site d sc (node_at t r) ∷ []) ++ (within s.2 a ++ (within s.3 b ++ within s.4 c)) ≡ heads t d sc r
-    unfolding heads
-    heads_are =
-        let fs = shape_of (kind_at t r) in
-        rw (is, p, q, u, meant_field_lem fs.a, meant_field_lem fs.b, meant_field_lem fs.c)
+-- Walks that follow one another.
 
-    -- so they are swept one after another
-    pub swept_heads : {table d₀ d₁ d₂ d₃ d₄ : List ℕ} {c₀ c₁ c₂ c₃ c₄ : Check} → Swept table (site d sc (node_at t r) ∷ []) d₀ d₁ c₀ c₁
-        → Swept table (within s.2 a) d₁ d₂ c₁ c₂ → Swept table (within s.3 b) d₂ d₃ c₂ c₃ → Swept table (within s.4 c) d₃ d₄ c₃ c₄
-        → Swept table (heads t d sc r) d₀ d₄ c₀ c₄
-    swept_heads row first second third = rw (← heads_are) (swept_append row (swept_append first (swept_append second third)))
+module _ {walk walk' : Walk} {f : ℕ → List Site} (one : Looked walk walk' f) where
+  -- the sites of an expression are the same in the walk that follows
+  part_same : (field : Field) (w d : ℕ) → part_sites walk' field w d ≡ part_sites walk field w d
+  part_same field w d = rw (one.kept.table, one.scope) refl
+
+  -- a row can be looked at there,
+  look_on : {row : ℕ} → CanLook walk row → CanLook walk' row
+  look_on can = record {
+    passes = rw one.kept.table can.passes;
+    stacked = rw (one.kept.table, one.scope) can.stacked;
+    there = rw one.kept.table can.there;
+  }
+
+  -- and a word walked
+  pub part_on : (w : ℕ) (field : Field) → CanPart walk w field → CanPart walk' w field
+  part_on w (Within low high) can = tt
+  part_on w (Child Expr) can = (look_on can.0, rw one.kept.table can.1)
+  part_on w (Child Stmt) can = tt
+
+  -- the sites of both have been looked at
+  looked_append : {walk'' : Walk} {g : ℕ → List Site} (h : ℕ → List Site) → Looked walk' walk'' g → ((d : ℕ) → g d ≡ h d)
+      → Looked walk walk'' (λ d. f d ++ h d)
+  looked_append {walk''} {g} h two same = record {
+    swept = λ d. swept_append (one.swept d) (rw (← (same d), ← one.kept.table) (two.swept d));
+    kept = record {
+      table = two.kept.table ∙ one.kept.table;
+      same_reference = two.kept.same_reference ∙ one.kept.same_reference;
+    };
+    scope = two.scope ∙ one.scope;
+  }
+
+-- nothing is looked at by doing nothing
+pub looked_none : {walk : Walk} → Looked walk walk (λ d. [])
+unfolding failing noted
+looked_none {walk} = record {
+  swept = λ d. record { finds = λ ps found. rw append-nil found; noted_is = refl; in_table = All-nil (λ s. InTable walk.table.now (stands_for s)) };
+  kept = record { table = refl; same_reference = refl };
+  scope = refl;
+}
+
+-- the sites that have been looked at are these
+pub looked_as : {walk walk' : Walk} {f : ℕ → List Site} (g : ℕ → List Site) → Looked walk walk' f → ((d : ℕ) → f d ≡ g d) → Looked walk walk' g
+looked_as g looked same = record { swept = λ d. rw (← (same d)) (looked.swept d); kept = looked.kept; scope = looked.scope }
+
+-- at any depth, they have been looked at one deeper
+looked_deeper : {walk walk' : Walk} {f : ℕ → List Site} → Looked walk walk' f → Looked walk walk' (λ d. f (suc d))
+looked_deeper looked = record { swept = λ d. looked.swept (suc d); kept = looked.kept; scope = looked.scope }
+
+-- a row and the expressions in it have been looked at when the row has been, and then the expression in each of its words
+pub looked_heads : {walk w₁ w₂ w₃ w₄ : Walk} (row : ℕ) {read : RowWords} → read ≡ row_words (words_of walk) row
+    → Looked walk w₁ (row_sites walk row) → Looked w₁ w₂ (part_sites w₁ read.shape.a read.a)
+    → Looked w₂ w₃ (part_sites w₂ read.shape.b read.b) → Looked w₃ w₄ (part_sites w₃ read.shape.c read.c) → Looked walk w₄ (head_sites walk row)
+looked_heads {walk} {w₁} {w₂} row {read} is look first second third =
+    let s = read.shape in
+    let last = looked_append second (part_sites w₂ s.c read.c) third (part_same second s.c read.c) in
+    let rest = looked_append first (λ d. part_sites w₁ s.b read.b d ++ part_sites w₁ s.c read.c d) last
+    (λ d. rw (part_same first s.b read.b d, part_same first s.c read.c d) refl) in
+    let all = looked_append look (λ d. part_sites walk s.a read.a d ++ (part_sites walk s.b read.b d ++ part_sites walk s.c read.c d)) rest
+    (λ d. rw (part_same look s.a read.a d, part_same look s.b read.b d, part_same look s.c read.c d) refl) in
+    looked_as (head_sites walk row) all (heads_are walk row is)
+
+-- where the field of a word is an expression, that is the row that the word holds
+pub looked_part : {walk walk' : Walk} (w : ℕ) → CanPart walk w (Child Expr) → Looked walk walk' (head_sites walk w)
+    → Looked walk walk' (part_sites walk (Child Expr) w)
+looked_part {walk} w can looked =
+    let shaped = formed walk.table.now can.0.passes in
+    looked_as (part_sites walk (Child Expr) w) (looked_deeper looked)
+    (λ d. sym (expr_heads shaped (suc d) (scope_in walk) w can.0.there can.1))
+
+-- and where it is none, there is nothing to look at
+pub looked_other : (walk : Walk) (field : Field) (w : ℕ) → (field ≡ Child Expr → ⊥) → Looked walk walk (part_sites walk field w)
+looked_other walk (Within low high) w other = looked_none
+looked_other walk (Child Expr) w other = absurd (other refl)
+looked_other walk (Child Stmt) w other = looked_none

@@ -10,39 +10,17 @@ use Rattle.names.specs.Notes.{CanNote}
 -- the count of an expression
 abbrev pub count_by : Meaning → ℕ → List ℕ → ℕ
 count_by (m.Number v) given counts = v.0
-count_by (m.Truth v) given counts = 4294967295
 count_by (m.Name x) given counts = given
 count_by (m.Both o a b) given counts = count_two (meant_op o) (get_or counts a.0 0) (get_or counts b.0 0)
 count_by (m.Cond g a b) given counts = max (get_or counts a.0 0) (get_or counts b.0 0)
-count_by (m.Element x i) given counts = 4294967295
-count_by (m.Input y d n) given counts = 4294967295
-count_by (m.Declare x y n) given counts = 4294967295
-count_by (m.Assign x v) given counts = 4294967295
-count_by (m.For x b f l) given counts = 4294967295
-count_by (m.Write x i v) given counts = 4294967295
-count_by (m.If g a b) given counts = 4294967295
-count_by (m.Out v) given counts = 4294967295
-count_by (m.Then a b) given counts = 4294967295
-count_by m.Nothing given counts = 4294967295
+count_by _ given counts = 4294967295
 
 -- the counts of lower rows are noted
-abbrev pub CanCount : List ℕ → List ℕ → List ℕ → ℕ → Type 0
-CanCount = CanNote count
+abbrev pub CanCount : List ℕ → List ℕ → ℕ → Type 0
+CanCount = CanNote count 0
 
 -- check 8 of a row
 abbrev pub counted_by : Meaning → ℕ → List ℕ → Bool
-counted_by (m.Number v) size counts = true
-counted_by (m.Truth v) size counts = true
-counted_by (m.Name x) size counts = true
-counted_by (m.Both o a b) size counts = true
-counted_by (m.Cond g a b) size counts = true
 counted_by (m.Element x i) size counts = ltb (get_or counts i.0 0) size
-counted_by (m.Input y d n) size counts = true
-counted_by (m.Declare x y n) size counts = true
-counted_by (m.Assign x v) size counts = true
-counted_by (m.For x b f l) size counts = true
 counted_by (m.Write x i v) size counts = ltb (get_or counts i.0 0) size
-counted_by (m.If g a b) size counts = true
-counted_by (m.Out v) size counts = true
-counted_by (m.Then a b) size counts = true
-counted_by m.Nothing size counts = true
+counted_by _ size counts = true

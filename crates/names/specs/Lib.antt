@@ -3,6 +3,7 @@
 pub mod Naming
 pub mod Declares
 pub mod Stack
+pub mod Sweep
 pub mod Walk
 -- checks 6, 7 and 8
 pub mod Notes

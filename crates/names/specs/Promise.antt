@@ -1,12 +1,10 @@
 -- What checks 1 to 8 promise (document 01, "Order of refusals"): their verdict by the paper's numbers.
-use Rattle.std.specs.Prelude.{ℕ, ◌≡◌, List}
+use Rattle.std.specs.Prelude.{ℕ, ◌≡◌, Bool, List, Result, Ok, Err, OnOk}
 use Rattle.rules.specs.Places.{refused, accepted}
 use Rattle.rules.specs.Places as rules
 use Rattle.rules.specs.Answers.{checked}
 use Rattle.names.specs.declared.Refusal.{Refusal}
 use Rattle.names.specs.declared.Refusal.TheVariants.{Length, Shape, Place, Depth, Name, Typing, Secret, Index}
-use Rattle.names.specs.declared.Verdict.{Verdict}
-use Rattle.names.specs.declared.Verdict.TheVariants.{Accepted, Refused}
 use Rattle.names.specs.Labels.{Labelled}
 
 -- the paper's number of a refusal
@@ -32,11 +30,11 @@ refusal_place (Secret r) = r.0
 refusal_place (Index r) = r.0
 
 -- the verdict of the rules that an answer gives
-abbrev pub verdict_of : Verdict → rules.Verdict (Unit {0})
-verdict_of Accepted = accepted tt
-verdict_of (Refused why) = refused (refusal_number why) (refusal_place why)
+abbrev pub verdict_of : Result (Unit {0}) Refusal → rules.Verdict (Unit {0})
+verdict_of (Ok u) = accepted u
+verdict_of (Err why) = refused (refusal_number why) (refusal_place why)
 
 -- of one call: the verdict is the rules', and of an accepted table the secret rows are marked
-pub record Judged (table secret : List ℕ) (r : Verdict) : Type 0 where
+pub record Judged (table : List ℕ) (secret : List Bool) (r : Result (Unit {0}) Refusal) : Type 0 where
   pub verdict_is : verdict_of r ≡ checked table
-  pub labels_are : r ≡ Accepted → Labelled table secret
+  pub labels_are : OnOk r (Labelled table secret)

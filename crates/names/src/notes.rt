@@ -1,25 +1,39 @@
-// What is noted of each row, in an array of 1,024 words; and what the row that binds a name says of the name.
-ghost use Rattle.std.specs.Prelude.{◌≡◌, length, get_or};
-ghost use Rattle.names.specs.Notes.{given_by};
+// What is noted of each row, in an array of 1,024; and what the row that binds a name says of the name.
+ghost use Rattle.std.specs.Prelude.{◌≡◌};
+ghost use Rattle.table.specs.declared.meaning.Ty.TheVariants.{Uint};
+ghost use Rattle.names.specs.Notes.{IsNoted, given_with, given_by};
 
-use table::meaning::Meaning;
+use table::meaning::{Meaning, Ty};
 use table::row::Row;
 
-// What is noted of a row; 0 of a row past the array.
-pub fn at(notes: &[u32; 1024], row: Row) -> u32
-    requires { length notes.now ≡ 1024 }
-    ensures { result ≡ get_or notes.now row.0 0 }
+// What is noted of a row; the default of a row past the array.
+pub fn at<T: Copy + Default>(notes: &[T; 1024], row: Row) -> T
+    ensures { IsNoted T.is_default notes.now row.0 result }
 {
-    let k = row.0 as usize;
-    if k < 1024 { notes[k] } else { 0 }
+    // It is made first, since the contract tells the noted value by it.
+    let none = T::default();
+    notes.get(row.0 as usize).copied().unwrap_or(none)
 }
 
-// What the row that binds a name says of it: the number of its type, its length (0 for what is no array) and what it counts.
+// What the row that binds a name says of it: its type, its length (0 for what is no array) and what it counts.
 #[derive(Clone, Copy)]
 pub struct Given {
-    pub ty: u32,
+    pub ty: Ty,
     pub length: u32,
     pub count: u32,
+}
+
+// What is said of a name that no row binds.
+impl Default for Given {
+    ghost is_default = { λ given. given ≡ given_with Uint 0 4294967295 };
+
+    fn default() -> Given {
+        Given {
+            ty: Ty::Uint,
+            length: 0,
+            count: u32::MAX,
+        }
+    }
 }
 
 // A loop's name is a uint and counts its last; no other row binds a name.
@@ -28,19 +42,15 @@ pub fn given_by(meaning: Meaning) -> Given
 {
     match meaning {
         Meaning::Declare { ty, length, .. } => Given {
-            ty: ty.0,
-            length: length,
-            count: 4294967295,
+            ty,
+            length,
+            count: u32::MAX,
         },
         Meaning::For { last, .. } => Given {
-            ty: 0,
+            ty: Ty::Uint,
             length: 0,
             count: last,
         },
-        _ => Given {
-            ty: 0,
-            length: 0,
-            count: 4294967295,
-        },
+        _ => Given::default(),
     }
 }

@@ -1,176 +1,151 @@
 // Check 6: types. From the lowest row up, so that the types of a row's parts are known.
-ghost use Rattle.std.specs.Prelude.{◌≡◌, T, eqb, length, get_or};
+ghost use Rattle.std.specs.Prelude.{◌≡◌, T};
 ghost use Rattle.words.specs.Words.{words};
 ghost use Rattle.rules.specs.Rows.{kind_at, is_expr};
 ghost use Rattle.rules.specs.Tree.{expr_at};
 ghost use Rattle.rules.specs.Types.{type_e, result_type, check6};
 ghost use Rattle.rules.specs.Answers.{failing6};
 ghost use Rattle.circuit.specs.Gates.{meant_op};
-ghost use Rattle.rows.specs.Passed.{Passes};
 ghost use Rattle.rows.specs.ByRow.{site_at, scope_at};
-ghost use Rattle.table.specs.Meaning.{type_number};
+ghost use Rattle.table.specs.Meaning.{as_type};
 ghost use Rattle.table.specs.Checks.{Finds};
-ghost use Rattle.names.specs.Declares.{Declares};
-ghost use Rattle.names.specs.Types.{type_by, typed_by, sort_kept, read_of, otherwise, seen_after, ReadIn, InputsSeen, CanType};
+ghost use Rattle.names.specs.Types.{type_by, typed_by, kept, read_of, ReadIn, clash_of, seen_after, CanType, InputsSeen};
 
-use crate::notes::{Given, at, given_by};
-use circuit::checks::{clashes, note_input};
+use crate::named::Named;
+use crate::notes::{Given, at};
+use circuit::checks::InputSorts;
 use circuit::gates::{Op, Read};
 use circuit::sorts::Sort;
-use table::checks::Check;
-use table::meaning::{Meaning, Ty, meaning_at};
-use table::row::{Row, row_count};
+use table::meaning::{Meaning, Ty};
+use table::row::Row;
 
-fn op_type(op: Op) -> u32
-    ensures { result ≡ type_number (result_type (meant_op op)) }
+fn op_type(op: Op) -> Ty
+    ensures { result ≡ as_type (result_type (meant_op op)) }
 {
     match op {
-        Op::Add => Ty::UINT.0,
-        Op::Greater => Ty::BOOL.0,
+        Op::Add => Ty::Uint,
+        Op::Greater => Ty::Bool,
     }
 }
 
-// The number of an expression's type, by its meaning, the type of the name in it, and the types noted of lower rows.
-fn type_by(meaning: Meaning, given: u32, types: &[u32; 1024]) -> u32
-    requires { length types.now ≡ 1024 }
+// An expression's type, by its meaning, the type of the name in it, and the types noted of lower rows.
+fn type_by(meaning: Meaning, given: Ty, types: &[Ty; 1024]) -> Ty
     ensures { result ≡ type_by meaning given types.now }
 {
     match meaning {
-        Meaning::Truth { .. } => 1,
-        Meaning::Name { .. } => given,
+        Meaning::Truth { .. } => Ty::Bool,
+        Meaning::Name { .. } | Meaning::Element { .. } => given,
         Meaning::Both { op, .. } => op_type(op),
         Meaning::Cond { first, .. } => at(types, first),
-        Meaning::Element { .. } => given,
-        Meaning::Input { ty, .. } => ty.0,
-        _ => 0,
+        Meaning::Input { ty, .. } => ty,
+        _ => Ty::Uint,
     }
 }
 
-// The number of the type of the expression at a row.
-fn type_at(table: &[u8], decl: &[u32; 1024], types: &[u32; 1024], row: Row) -> u32
-    requires { CanType table.now decl.now types.now row.0 }
-    ensures { T (is_expr (kind_at (words table.now) row.0))
-        → result ≡ type_number (type_e (scope_at table.now row.0) (expr_at (words table.now) row.0)) }
+// The type of the expression at a row.
+#[tactic(auto, using(crate::proofs::TypeLaws::type_at_row))]
+fn type_at(named: &Named, types: &[Ty; 1024], row: Row) -> Ty
+    requires { CanType named.now.table.now types.now row.0 }
+    ensures { T (is_expr (kind_at (words named.now.table.now) row.0))
+        → result ≡ as_type (type_e (scope_at named.now.table.now row.0)
+        (expr_at (words named.now.table.now) row.0)) }
 {
-    let given = given_by(meaning_at(table, Row(at(decl, row))));
-    type_by(meaning_at(table, row), given.ty, types)
-}
-
-fn is_uint(types: &[u32; 1024], row: Row) -> bool
-    requires { length types.now ≡ 1024 }
-    ensures { result ≡ eqb (get_or types.now row.0 0) 0 }
-{
-    at(types, row) == Ty::UINT.0
-}
-
-fn is_bool(types: &[u32; 1024], row: Row) -> bool
-    requires { length types.now ≡ 1024 }
-    ensures { result ≡ eqb (get_or types.now row.0 0) 1 }
-{
-    at(types, row) == Ty::BOOL.0
-}
-
-// The input that a row reads, at the sort of its type.
-fn read_of(meaning: Meaning) -> Read
-    ensures { result ≡ read_of meaning }
-{
-    match meaning {
-        Meaning::Input { ty, desk, number } => Read::Input {
-            desk: desk,
-            number: number,
-            sort: kept(ty),
-        },
-        _ => Read::Nothing,
-    }
+    type_by(named.meaning(row), named.given(row).ty, types)
 }
 
 // The sort at which a value of a type is kept.
 fn kept(ty: Ty) -> Sort
-    ensures { result ≡ sort_kept ty }
+    ensures { result ≡ kept ty }
 {
-    if ty.0 == Ty::UINT.0 {
-        Sort::ARITHMETIC
-    } else {
-        Sort::BIT
+    match ty {
+        Ty::Uint => Sort::Arithmetic,
+        Ty::Bool => Sort::Bit,
     }
 }
 
-// A lower row reads the input at the other type.
-fn read_otherwise(seen: &[u32; 128], read: Read) -> bool
-    requires { ReadIn read }
-    ensures { result ≡ otherwise seen.now read }
+// The input that a row reads, at the sort of its type.
+fn read_of(meaning: Meaning) -> Option<Read>
+    ensures { result ≡ read_of meaning }
 {
-    match read {
-        Read::Input { desk, number, sort } => clashes(seen, desk, number, sort),
-        Read::Nothing => false,
+    match meaning {
+        Meaning::Input { ty, desk, number } => Some(Read {
+            desk,
+            number,
+            sort: kept(ty),
+        }),
+        _ => None,
     }
 }
 
-// An input that a row reads is noted.
-fn note_read(seen: &mut [u32; 128], read: Read)
-    requires { ReadIn read × (length seen.old ≡ 128) }
-    ensures { seen.new ≡ seen_after seen.old read }
+// A lower row reads the input that a row reads, at the other type.
+fn clashes(meaning: Meaning, inputs: &InputSorts) -> bool
+    requires { ReadIn (read_of meaning) }
+    ensures { result ≡ clash_of inputs.now.sorts (read_of meaning) }
 {
-    match read {
-        Read::Input { desk, number, sort } => note_input(seen, desk, number, sort),
-        Read::Nothing => {}
+    read_of(meaning).is_some_and(|read| inputs.clashes(read))
+}
+
+// The input that a row reads is noted.
+fn note_read(meaning: Meaning, inputs: &mut InputSorts)
+    requires { ReadIn (read_of meaning) }
+    ensures { inputs.new.sorts ≡ seen_after inputs.old.sorts (read_of meaning) }
+{
+    if let Some(read) = read_of(meaning) {
+        inputs.note(read);
     }
 }
 
 // Check 6 of a row, by its meaning, what is said of the name in it, the types noted of lower rows, and whether it reads an input
 // otherwise than a lower row.
-fn typed_by(meaning: Meaning, given: Given, types: &[u32; 1024], other: bool) -> bool
-    requires { length types.now ≡ 1024 }
+fn typed_by(meaning: Meaning, given: Given, types: &[Ty; 1024], other: bool) -> bool
     ensures { result ≡ typed_by meaning given types.now other }
 {
     match meaning {
         Meaning::Name { .. } => given.length == 0,
-        Meaning::Both { first, second, .. } => is_uint(types, first) & is_uint(types, second),
+        Meaning::Both { first, second, .. } => {
+            at(types, first) == Ty::Uint && at(types, second) == Ty::Uint
+        }
         Meaning::Cond {
             guard,
             first,
             second,
-        } => is_bool(types, guard) & (at(types, first) == at(types, second)),
-        Meaning::Element { index, .. } => !(given.length == 0) & is_uint(types, index),
+        } => at(types, guard) == Ty::Bool && at(types, first) == at(types, second),
+        Meaning::Element { index, .. } => given.length != 0 && at(types, index) == Ty::Uint,
         Meaning::Input { .. } => !other,
-        Meaning::Assign { value, .. } => (given.length == 0) & (at(types, value) == given.ty),
-        Meaning::Write { index, value, .. } => !(given.length == 0)
-            & (is_uint(types, index) & (at(types, value) == given.ty)),
-        Meaning::If { guard, .. } => is_bool(types, guard),
+        Meaning::Assign { value, .. } => given.length == 0 && at(types, value) == given.ty,
+        Meaning::Write { index, value, .. } => {
+            given.length != 0 && at(types, index) == Ty::Uint && at(types, value) == given.ty
+        }
+        Meaning::If { guard, .. } => at(types, guard) == Ty::Bool,
         _ => true,
     }
 }
 
 // Check 6 of a row.
-fn typed(table: &[u8], decl: &[u32; 1024], types: &[u32; 1024], seen: &[u32; 128], row: Row) -> bool
-    requires { CanType table.now decl.now types.now row.0 × InputsSeen table.now seen.now row.0 }
-    ensures { result ≡ check6 (words table.now) (site_at table.now row.0) }
+#[tactic(auto, using(crate::proofs::TypeLaws::typed_at_row, crate::proofs::InputLaws::clash_told, crate::proofs::InputLaws::read_in, crate::proofs::NoteLaws::passes_two))]
+fn typed(named: &Named, types: &[Ty; 1024], inputs: &InputSorts, row: Row) -> bool
+    requires { CanType named.now.table.now types.now row.0
+        × InputsSeen named.now.table.now inputs.now.sorts row.0 }
+    ensures { result ≡ check6 (words named.now.table.now) (site_at named.now.table.now row.0) }
 {
-    let given = given_by(meaning_at(table, Row(at(decl, row))));
-    let meaning = meaning_at(table, row);
-    let other = read_otherwise(seen, read_of(meaning));
-    typed_by(meaning, given, types, other)
+    let meaning = named.meaning(row);
+    typed_by(meaning, named.given(row), types, clashes(meaning, inputs))
 }
 
-// Check 6, of a table that passes check 5.
-pub fn check_types(table: &[u8], decl: &[u32; 1024]) -> Check
-    requires { Passes 5 table.now × Declares table.now decl.now }
-    ensures { Finds (failing6 table.now) result }
+// Check 6, of a table whose names are known. (Its loop is check 8's with the inputs beside: said once, it would need a closure that
+// changes them, and be no plainer.)
+pub fn check_types(named: &Named) -> Result<(), Row>
+    ensures { Finds (failing6 named.now.table.now) result }
 {
-    let n = row_count(table);
-    let mut types = [0u32; 1024];
-    let mut seen = [0u32; 128];
-    let mut i: u32 = 0;
-    while i < n {
+    let mut types = [Ty::Uint; 1024];
+    let mut inputs = InputSorts::new();
+    for i in 0..named.row_count() {
         let row = Row(i);
-        if !typed(table, decl, &types, &seen, row) {
-            return Check::Failed { row: row };
+        if !typed(named, &types, &inputs, row) {
+            return Err(row);
         }
-        let ty = type_at(table, decl, &types, row);
-        let k = i as usize;
-        types[k] = ty;
-        note_read(&mut seen, read_of(meaning_at(table, row)));
-        i += 1;
+        types[i as usize] = type_at(named, &types, row);
+        note_read(named.meaning(row), &mut inputs);
     }
-    Check::Passed
+    Ok(())
 }

@@ -1,43 +1,24 @@
 -- `judge` is the verdict of checks 1 to 8, of any bytes.
-use Rattle.std.proofs.Common.{refl, sym, ◌∙◌}
-use Rattle.names.specs.declared.Refusal.TheVariants.{Length, Shape, Place, Depth}
-use Rattle.names.proofs.JudgeLaws.{unfit, fit, judged_refused}
+use Rattle.std.proofs.Common.{refl, sym, ◌∙◌, rules}
+use Rattle.names.specs.declared.Refusal.TheVariants.{Length}
+use Rattle.names.proofs.JudgeLaws.{unfit, fit, judged_refused, none_refused, judged_step}
 use Rattle.names.proofs.judge.Goals as goal
 
 pub returns-then-not-fits : goal.returns-then-not-fits
 returns-then-not-fits c =
     judged_refused c.args.table.now c.args.secret.now 0 Length tt (unfit c.args.table.now (sym c.fits.ensures ∙ c.if-not-fits.true)) refl
 
-pub check_shapes-shapes-requires : goal.check_shapes-shapes-requires
-check_shapes-shapes-requires c = (fit c.args.table.now (sym c.fits.ensures ∙ c.if-not-fits.false), tt)
+pub returns-in_err-map_err : goal.returns-in_err-map_err
+returns-in_err-map_err c =
+    judged_step c.args.table.now c.args.secret.now 1 (λ row why is. search rules) c.check_shapes.result c.map_err.result c.check_shapes.ensures c.map_err.ensures.cases
+    (search (rules, none_refused, fit)) c.in_err-map_err.was c.from_residual.result c.from_residual.ensures.1
 
-pub returns-in-Failed : goal.returns-in-Failed
-returns-in-Failed c =
-    let e1 = fit c.args.table.now (sym c.fits.ensures ∙ c.if-not-fits.false) in
-    judged_refused c.args.table.now c.args.secret.now 1 (Shape c.in-Failed.row) (e1, tt) c.in-Failed.ensures refl
+pub returns-in_err-map_err-2 : goal.returns-in_err-map_err-2
+returns-in_err-map_err-2 c =
+    judged_step c.args.table.now c.args.secret.now 2 (λ row why is. search rules) c.check_uses.result c.map_err-2.result c.check_uses.ensures c.map_err-2.ensures.cases
+    (search (rules, none_refused, fit)) c.in_err-map_err-2.was c.from_residual-in_err-map_err-2.result c.from_residual-in_err-map_err-2.ensures.1
 
-pub check_uses-places-requires : goal.check_uses-places-requires
-check_uses-places-requires c =
-    let e1 = fit c.args.table.now (sym c.fits.ensures ∙ c.if-not-fits.false) in
-    (e1, (c.in_default.ensures, tt))
-
-pub returns-in-Failed-places : goal.returns-in-Failed-places
-returns-in-Failed-places c =
-    let e1 = fit c.args.table.now (sym c.fits.ensures ∙ c.if-not-fits.false) in
-    judged_refused c.args.table.now c.args.secret.now 2 (Place c.in-Failed-places.row) (e1, (c.in_default.ensures, tt)) c.in-Failed-places.ensures refl
-
-pub check_depths-depths-requires : goal.check_depths-depths-requires
-check_depths-depths-requires c =
-    let e1 = fit c.args.table.now (sym c.fits.ensures ∙ c.if-not-fits.false) in
-    (e1, (c.in_default.ensures, (c.in_default-places.ensures, tt)))
-
-pub returns-in-Failed-depths : goal.returns-in-Failed-depths
-returns-in-Failed-depths c =
-    let e1 = fit c.args.table.now (sym c.fits.ensures ∙ c.if-not-fits.false) in
-    judged_refused c.args.table.now c.args.secret.now 3 (Depth c.in-Failed-depths.row)
-    (e1, (c.in_default.ensures, (c.in_default-places.ensures, tt))) c.in-Failed-depths.ensures refl
-
-pub judge_names-requires : goal.judge_names-requires
-judge_names-requires c =
-    let e1 = fit c.args.table.now (sym c.fits.ensures ∙ c.if-not-fits.false) in
-    ((e1, (c.in_default.ensures, (c.in_default-places.ensures, (c.in_default-depths.ensures, tt)))), c.requires)
+pub returns-in_err-map_err-3 : goal.returns-in_err-map_err-3
+returns-in_err-map_err-3 c =
+    judged_step c.args.table.now c.args.secret.now 3 (λ row why is. search rules) c.check_depths.result c.map_err-3.result c.check_depths.ensures c.map_err-3.ensures.cases
+    (search (rules, none_refused, fit)) c.in_err-map_err-3.was c.from_residual-in_err-map_err-3.result c.from_residual-in_err-map_err-3.ensures.1

@@ -1,33 +1,24 @@
 -- `judge_names` is the verdict of checks 5 to 8, of a table that passes the first four.
-use Rattle.std.proofs.Common.{refl}
-use Rattle.names.specs.declared.Refusal.TheVariants.{Name, Typing, Secret, Index}
-use Rattle.names.proofs.JudgeLaws.{judged_refused, judged_accepted}
+use Rattle.std.proofs.Common.{rules}
+use Rattle.names.proofs.JudgeLaws.{none_refused, judged_step, judged_last}
 use Rattle.names.proofs.judge_names.Goals as goal
 
-pub returns-in-Failed : goal.returns-in-Failed
-returns-in-Failed c = judged_refused c.args.table.now c.args.secret.now 4 (Name c.in-Failed.row) c.requires.0 c.in-Failed.ensures.0 refl
+pub returns-in_err-map_err : goal.returns-in_err-map_err
+returns-in_err-map_err c =
+    judged_step c.args.table.now c.args.secret.now 4 (λ row why is. search rules) c.check_names.result c.map_err.result c.check_names.ensures.0 c.map_err.ensures.cases
+    c.requires c.in_err-map_err.was c.from_residual.result c.from_residual.ensures.1
 
-pub returns-in-Failed-types : goal.returns-in-Failed-types
-returns-in-Failed-types c =
-    let (e1, (e2, (e3, (e4, u)))) = c.requires.0 in
-    judged_refused c.args.table.now c.args.secret.now 5 (Typing c.in-Failed-types.row) (e1, (e2, (e3, (e4, (c.in_default.ensures.0, tt)))))
-    c.in-Failed-types.ensures refl
+pub returns-in_err-map_err-2 : goal.returns-in_err-map_err-2
+returns-in_err-map_err-2 c =
+    judged_step c.args.table.now c.args.secret.now 5 (λ row why is. search rules) c.check_types.result c.map_err-2.result c.check_types.ensures c.map_err-2.ensures.cases
+    (search (rules, none_refused)) c.in_err-map_err-2.was c.from_residual-in_err-map_err-2.result c.from_residual-in_err-map_err-2.ensures.1
 
-pub returns-in-Failed-public : goal.returns-in-Failed-public
-returns-in-Failed-public c =
-    let (e1, (e2, (e3, (e4, u)))) = c.requires.0 in
-    judged_refused c.args.table.now c.label.new.secret 6 (Secret c.in-Failed-public.row)
-    (e1, (e2, (e3, (e4, (c.in_default.ensures.0, (c.in_default-types.ensures, tt)))))) c.in-Failed-public.ensures refl
-
-pub returns-in-Failed-indexes : goal.returns-in-Failed-indexes
-returns-in-Failed-indexes c =
-    let (e1, (e2, (e3, (e4, u)))) = c.requires.0 in
-    judged_refused c.args.table.now c.label.new.secret 7 (Index c.in-Failed-indexes.row)
-    (e1, (e2, (e3, (e4, (c.in_default.ensures.0, (c.in_default-types.ensures, (c.in_default-public.ensures, tt))))))) c.in-Failed-indexes.ensures refl
+pub returns-in_err-map_err-3 : goal.returns-in_err-map_err-3
+returns-in_err-map_err-3 c =
+    judged_step c.args.table.now c.label.new.secret 6 (λ row why is. search rules) c.check_public.result c.map_err-3.result c.check_public.ensures c.map_err-3.ensures.cases
+    (search (rules, none_refused)) c.in_err-map_err-3.was c.from_residual-in_err-map_err-3.result c.from_residual-in_err-map_err-3.ensures.1
 
 pub returns : goal.returns
 returns c =
-    let (e1, (e2, (e3, (e4, u)))) = c.requires.0 in
-    judged_accepted c.args.table.now c.label.new.secret
-    (e1, (e2, (e3, (e4, (c.in_default.ensures.0, (c.in_default-types.ensures, (c.in_default-public.ensures, (c.in_default-indexes.ensures, tt))))))))
-    c.label.ensures
+    judged_last c.args.table.now c.label.new.secret 7 (λ row why is. search rules) c.check_indexes.result c.map_err-4.result c.check_indexes.ensures
+    c.map_err-4.ensures.cases (search (rules, none_refused)) (λ last. search (rules, none_refused)) c.label.ensures

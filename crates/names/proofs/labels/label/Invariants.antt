@@ -6,7 +6,7 @@ use Rattle.names.proofs.LabelLaws.{Marking}
 use Rattle.names.proofs.labels.label.Given as goal
 
 abbrev pub invariant-loop : goal.invariant-loop
-invariant-loop l = Marking l.table l.decl l.secret
+invariant-loop l = Marking l.named.table.now l.named.binders.now l.secret
 
 abbrev pub decreases-loop : goal.decreases-loop
-decreases-loop l = rows_of l.table - marks l.secret (rows_of l.table)
+decreases-loop l = rows_of l.named.table.now - marks l.secret (rows_of l.named.table.now)

@@ -4,4 +4,4 @@ use Rattle.names.proofs.LabelLaws.{followed_on}
 use Rattle.names.proofs.labels.pass.Goals as goal
 
 pub loop-i-preserved : goal.loop-i-preserved
-loop-i-preserved c = (omega arith, followed_on (omega arith) (omega arith) c.loop-i.invariant.1 c.follow-more.ensures)
+loop-i-preserved c = followed_on (omega arith) (omega arith) c.loop-i.invariant c.follow-made.ensures

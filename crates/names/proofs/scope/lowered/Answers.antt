@@ -1,9 +1,11 @@
 -- `scope::lowered` is the lowest of the failing rows and one row more.
-use Rattle.names.proofs.SweepLaws.{lowest_new, lowest_old}
+use Rattle.std.proofs.Common.{arith, ◌≡◌, min}
+use Rattle.std.specs.Prelude.{MatchOption}
+use Rattle.std.proofs.lemmas.Grind.{common_steps}
+use Rattle.names.proofs.SweepLaws.{lowest_more}
 use Rattle.names.proofs.scope.lowered.Goals as goal
 
-pub returns-then-row-other : goal.returns-then-row-other
-returns-then-row-other c = λ ps before. lowest_new c.args.row.0 ps (rw c.in-Failed.is at before) c.if-row-other.true
-
-pub returns-else-row-other : goal.returns-else-row-other
-returns-else-row-other c = λ ps before. lowest_old c.args.row.0 ps (rw c.in-Failed.is at before) c.if-row-other.false
+pub returns : goal.returns
+returns c =
+    let smaller : MatchOption c.args.lowest (c.map_or.result ≡ c.args.row) (λ other. c.map_or.result.0 ≡ min other.0 c.args.row.0) = grind (arith, common_steps) in
+    lowest_more c.args.lowest c.args.row c.map_or.result smaller

@@ -1,15 +1,18 @@
--- `search::find` finds the row that binds the name, or nothing.
-use Rattle.std.proofs.Common.{sym, ◌∙◌, ◌-◌, arith}
-use Rattle.names.proofs.SearchLaws.{search_ends, search_passes, search_finds}
+-- `search::find` passes a row that does not bind the name.
+use Rattle.std.proofs.Common.{[], ◌∷◌, ◌∙◌}
+use Rattle.words.specs.Words.{words}
+use Rattle.rows.specs.Passed.{In}
+use Rattle.names.proofs.SearchLaws.{found_before, All-front}
 use Rattle.names.proofs.search.find.Goals as goal
 
-pub loop-i-preserved : goal.loop-i-preserved
-loop-i-preserved c = search_passes c.loop-i.invariant c.if-i-eq0.false (λ e. c.if-word_at-name.false (c.word_at.ensures ∙ e))
-
-pub returns-then-i-eq0 : goal.returns-then-i-eq0
-returns-then-i-eq0 c = search_ends c.loop-i.invariant c.if-i-eq0.true
-
-pub returns-then-word_at-name : goal.returns-then-word_at-name
-returns-then-word_at-name c =
-    search_finds c.loop-i.invariant c.if-i-eq0.false (sym c.word_at.ensures ∙ c.if-word_at-name.true)
-    (c.requires.inside (c.loop-i.i - 1) (omega (arith, c.loop-i.invariant.within)))
+pub loop-row-preserved : goal.loop-row-preserved
+loop-row-preserved c =
+    let table = c.args.table.now in
+    let older = c.in-Some.older.now in
+    let row = c.in-Some.row.now in
+    let entries = c.in-Some.ensures.cases.0 in
+    let passed = found_before (words table) older row c.args.name entries (λ e. c.if-word_at-name.false (c.word_at.ensures ∙ e)) in
+    record {
+      same = passed ∙ c.loop-row.invariant.same;
+      inside = All-front (λ row. In table row.0) older (row ∷ []) (rw entries at c.loop-row.invariant.inside);
+    }

@@ -1,0 +1,58 @@
+// A table whose names are known: it passes check 5, and the row that binds the name of each row is noted.
+ghost use Rattle.std.specs.Prelude.{◌≡◌, ◌<◌, None, get_or};
+ghost use Rattle.std.proofs.Props.{props};
+ghost use Rattle.words.specs.Words.{words};
+ghost use Rattle.rules.specs.Answers.{rows_of};
+ghost use Rattle.rows.specs.Passed.{Passes};
+ghost use Rattle.table.specs.Meaning.{meaning_at};
+ghost use Rattle.names.specs.Declares.{Declares};
+ghost use Rattle.names.specs.Notes.{given_at, declaration_at};
+
+use crate::naming::is_declaration;
+use crate::notes::{Given, at, given_by};
+use table::meaning::{Meaning, meaning_at};
+use table::row::{Row, row_count};
+
+#[derive(Clone, Copy)]
+pub struct Named<'a> {
+    pub table: &'a [u8],
+    // Of each row, the row that binds the name in it.
+    pub binders: &'a [Option<Row>; 1024],
+    ghost passes: { Passes 5 table.now },
+    ghost declares: { Declares table.now binders.now } by { Prim.hlevel props },
+}
+
+impl Named<'_> {
+    pub fn row_count(&self) -> u32
+        ensures { result ≡ rows_of self.now.table.now }
+    {
+        row_count(self.table)
+    }
+
+    pub fn meaning(&self, row: Row) -> Meaning
+        requires { row.0 < rows_of self.now.table.now }
+        ensures { result ≡ meaning_at (words self.now.table.now) row.0 }
+    {
+        meaning_at(self.table, row)
+    }
+
+    // What the row that binds a row's name says of the name.
+    pub fn given(&self, row: Row) -> Given
+        requires { row.0 < rows_of self.now.table.now }
+        ensures { result ≡ given_at (words self.now.table.now) (get_or self.now.binders.now row.0 None) }
+    {
+        match at(self.binders, row) {
+            Some(binder) => given_by(self.meaning(binder)),
+            None => Given::default(),
+        }
+    }
+
+    // The declaration that a row's name stands for; none where the name is a loop's, or there is none.
+    pub fn declaration(&self, row: Row) -> Option<Row>
+        requires { row.0 < rows_of self.now.table.now }
+        ensures { result ≡ declaration_at (words self.now.table.now) (get_or self.now.binders.now row.0 None) }
+    {
+        let binder = at(self.binders, row)?;
+        is_declaration(self.meaning(binder)).then_some(binder)
+    }
+}
