@@ -11,7 +11,7 @@ use native.Mathlib.Omega.{arith}
 use Rattle.std.proofs.lemmas.Grind.{common_steps}
 use Rattle.std.specs.Prelude.{Option, Some, None}
 use Rattle.words.specs.Words.{words}
-use Rattle.rules.specs.Rows.{kind_at, Field, within, expr, stmt, Shape, shape_of}
+use Rattle.rules.specs.Rows.{word, kind_at, Field, within, expr, stmt, Shape, shape_of}
 use Rattle.rules.specs.Sites.{check4}
 use Rattle.rules.specs.Answers.{rows_of}
 use Rattle.rows.specs.Passed.{Passes, In}
@@ -21,10 +21,10 @@ use Rattle.rows.proofs.Table.{passes_fewer, rows_some, rows_few, rows_in_lem}
 use Rattle.rows.proofs.Formed.{Holds, Fields, fields, formed}
 use Rattle.rows.proofs.ByRows.{parent, child_depth, last_depth}
 use Rattle.table.specs.declared.row.Row.{Row}
+use Rattle.table.specs.declared.depths.Depths.{Depths}
 use Rattle.table.specs.declared.shapes.RowWords.{RowWords}
-use Rattle.table.specs.Shapes.{as_field, child_in, row_words}
+use Rattle.table.specs.Shapes.{as_field, child_in, children, row_words}
 use Rattle.table.specs.Depths.{CanSink, sunk, Sinking}
-use Rattle.table.proofs.RowShapeLaws.{child_a, child_b, child_c}
 
 module _ (table : List ℕ) (ok : Passes 3 table) where
   -- a table that passes check 3 passes check 1
@@ -71,20 +71,39 @@ can_sink t r w (within low high) is h = tt
 can_sink t r w expr is h = omega (arith, is.0)
 can_sink t r w stmt is h = omega (arith, is.0)
 
--- zs notes the depth of each row that ys notes, and of the child in the word w of the field f
-record Noted (table : List ℕ) (f : Field) (w : ℕ) (ys zs : List ℕ) : Type 0 where
-  long : length zs ≡ 1024
-  noted : (r : ℕ) → (get_or ys r 0 ≡ depth_at table r) ⊎ Place f w r → get_or zs r 0 ≡ depth_at table r
-
 -- where the children of each row from i on are noted, so is each row that is not below the row under i: it is the last, or a child
-pub depth_noted : {table xs : List ℕ} {i : ℕ} → Sinking table xs i → (r : ℕ) → i ≤ r + 1 → r < rows_of table → get_or xs r 0 ≡ depth_at table r
-depth_noted {table} {xs} sinking r from h = elim (last_or_child table sinking.passes r h) [
-  | inl e ↦ ap (λ (r : ℕ). get_or xs r 0) e ∙ (sinking.last ∙ (sym (last_depth table sinking.passes) ∙ sym (ap (depth_at table) e)))
-  | inr (q, (below, (higher, child))) ↦ sinking.children r q (omega arith) below child
-]
+pub depth_noted : {depths : Depths} {i : ℕ} → Sinking depths i → (r : ℕ) → i ≤ r + 1 → r < rows_of depths.table.now
+    → get_or depths.depths r 0 ≡ depth_at depths.table.now r
+depth_noted {depths} sinking r from h =
+    let table = depths.table.now in
+    elim (last_or_child table sinking.passes r h) [
+      | inl e ↦ ap (λ (r : ℕ). get_or depths.depths r 0) e ∙ (sinking.last ∙ (sym (last_depth table sinking.passes) ∙ sym (ap (depth_at table) e)))
+      | inr (q, (below, (higher, child))) ↦ sinking.children r q (omega arith) below child
+    ]
+
+-- row r is the child in one of the first k words of row q
+abbrev IsChildTo : List ℕ → ℕ → ℕ → ℕ → Type 0
+IsChildTo t r q zero = ⊥
+IsChildTo t r q (suc zero) = Place (shape_of (kind_at t q)).a (word t q 1) r
+IsChildTo t r q (suc (suc zero)) = Place (shape_of (kind_at t q)).a (word t q 1) r ⊎ Place (shape_of (kind_at t q)).b (word t q 2) r
+IsChildTo t r q (suc (suc (suc k))) = IsChild t r q
+
+-- after `before`, the children in the first k words of row q are noted
+pub record SunkTo (before depths : Depths) (q k : ℕ) : Type 0 where
+  pub same : depths.table ≡ before.table
+  pub long : length depths.depths ≡ 1024
+  pub noted : (r : ℕ) → (get_or before.depths r 0 ≡ depth_at before.table.now r) ⊎ IsChildTo (words before.table.now) r q k
+      → get_or depths.depths r 0 ≡ depth_at before.table.now r
+
+-- at first, none
+pub sunk_none : (before : Depths) (q : ℕ) → length before.depths ≡ 1024 → SunkTo before before q 0
+sunk_none before q long = record { same = refl; long = long; noted = λ r found. elim found [ inl e ↦ e | inr p ↦ absurd p ] }
 
 -- row i, whose parent is passed
-module _ {table xs : List ℕ} {i : ℕ} (sinking : Sinking table xs (i + 1)) (h : i < rows_of table) where
+module _ {before : Depths} {i : ℕ} (sinking : Sinking before (i + 1)) (h : i < rows_of before.table.now) where
+  abbrev table : List ℕ
+  table = before.table.now
+
   abbrev row : RowWords
   row = row_words (words table) i
 
@@ -100,7 +119,7 @@ module _ {table xs : List ℕ} {i : ℕ} (sinking : Sinking table xs (i + 1)) (h
   in_table = rows_in_lem table (passes-first table sinking.passes) i h
 
   -- one more than its depth fits 32 bits
-  pub one_more_fits : get_or xs i 0 + 1 < 4294967296
+  pub one_more_fits : get_or before.depths i 0 + 1 < 4294967296
   one_more_fits =
       omega (arith, depth_noted sinking i (omega arith) h, depth_few table sinking.passes i h, rows_between table sinking.passes)
 
@@ -109,75 +128,74 @@ module _ {table xs : List ℕ} {i : ℕ} (sinking : Sinking table xs (i + 1)) (h
   holds = fields (formed table (passes_fewer table 2 sinking.passes)) i h (kind_at (words table) i) refl
 
   -- so the child in each can be put at a depth,
-  pub can_a : CanSink (child_a row)
-  can_a = can_sink (words table) i row.a s.a holds.a_is in_list
+  can : (k : ℕ) → k < 3 → CanSink (get_or (children row) k None)
+  can zero less = can_sink (words table) i row.a s.a holds.a_is in_list
+  can (suc zero) less = can_sink (words table) i row.b s.b holds.b_is in_list
+  can (suc (suc zero)) less = can_sink (words table) i row.c s.c holds.c_is in_list
+  can (suc (suc (suc k))) less = absurd (omega arith)
 
-  pub can_b : CanSink (child_b row)
-  can_b = can_sink (words table) i row.b s.b holds.b_is in_list
+  pub can_next : (k : ℕ) → k < 3 → {items : List (Option Row)} → items ≡ children row → CanSink (get_or items k None)
+  can_next k less is = rw is (can k less)
 
-  pub can_c : CanSink (child_c row)
-  can_c = can_sink (words table) i row.c s.c holds.c_is in_list
+  -- one deeper than row i,
+  deeper : (r : ℕ) → IsChild (words table) r i → get_or before.depths i 0 + 1 ≡ depth_at table r
+  deeper r child = omega (arith, depth_noted sinking i (omega arith) h, child_depth table sinking.passes r i h child)
 
-  -- and put one deeper than row i it is noted
-  noted : (f : Field) (w : ℕ) → CanSink (child_in (as_field f) w) → ((r : ℕ) → Place f w r → IsChild (words table) r i)
-      → (ys : List ℕ) → length ys ≡ 1024 → Noted table f w ys (sunk ys (child_in (as_field f) w) (get_or xs i 0 + 1))
-  noted f w can child ys long =
-      let d = get_or xs i 0 + 1 in
-      record {
-        long = sunk_long ys (child_in (as_field f) w) d ∙ long;
-        noted = λ r before. sunk_at ys f w d r (depth_at table r) can long (deeper r) before;
-      }
-    where
-      deeper : (r : ℕ) → Place f w r → get_or xs i 0 + 1 ≡ depth_at table r
-      deeper r p = omega (arith, depth_noted sinking i (omega arith) h, child_depth table sinking.passes r i h (child r p))
-
-  abbrev after-a : List ℕ
-  after-a = sunk xs (child_a row) (get_or xs i 0 + 1)
-
-  abbrev after-b : List ℕ
-  after-b = sunk after-a (child_b row) (get_or xs i 0 + 1)
-
-  abbrev after-c : List ℕ
-  after-c = sunk after-b (child_c row) (get_or xs i 0 + 1)
-
-  -- with the children in its three words noted, those of every row from i on are
-  pub children-noted : length xs ≡ 1024 → Sinking table after-c i
-  children-noted long = record {
-    passes = sinking.passes;
-    last = all (rows_of table - 1) (inl (sinking.last ∙ sym (last_depth table sinking.passes))) ∙ last_depth table sinking.passes;
-    children = λ r q from below child. all r (elim (ℕ_discrete q i) [
-      | yes e ↦ inr (subst (IsChild (words table) r) e child)
-      | no ne ↦ inl (sinking.children r q (omega arith) below child)
-    ]);
+  -- and is then noted with those before
+  pub sinks_next : {depths after : Depths} (k : ℕ) → k < 3 → SunkTo before depths i k → {items : List (Option Row)} → items ≡ children row
+      → after.table ≡ depths.table → after.depths ≡ sunk depths.depths (get_or items k None) (get_or before.depths i 0 + 1) → SunkTo before after i (k + 1)
+  sinks_next {depths} {after} k less so_far {items} is same now = record {
+    same = same ∙ so_far.same;
+    long = ap length now ∙ (sunk_long depths.depths (get_or items k None) (get_or before.depths i 0 + 1) ∙ so_far.long);
+    noted = λ r at_r. rw (now, is) (at k less so_far.noted r at_r);
   }
     where
-      a : Noted table s.a row.a xs after-a
-      a = noted s.a row.a can_a (λ r p. inl p) xs long
+      put : (f : Field) (w r : ℕ) → Holds (words table) i w f → (Place f w r → IsChild (words table) r i)
+          → (get_or depths.depths r 0 ≡ depth_at table r) ⊎ Place f w r
+          → get_or (sunk depths.depths (child_in (as_field f) w) (get_or before.depths i 0 + 1)) r 0 ≡ depth_at table r
+      put f w r is child = sunk_at depths.depths f w (get_or before.depths i 0 + 1) r (depth_at table r)
+          (can_sink (words table) i w f is in_list) so_far.long (λ p. deeper r (child p))
 
-      b : Noted table s.b row.b after-a after-b
-      b = noted s.b row.b can_b (λ r p. inr (inl p)) after-a a.long
+      at : (k : ℕ) → k < 3
+          → ((r : ℕ) → (get_or before.depths r 0 ≡ depth_at table r) ⊎ IsChildTo (words table) r i k → get_or depths.depths r 0 ≡ depth_at table r)
+          → (r : ℕ) → (get_or before.depths r 0 ≡ depth_at table r) ⊎ IsChildTo (words table) r i (k + 1)
+          → get_or (sunk depths.depths (get_or (children row) k None) (get_or before.depths i 0 + 1)) r 0 ≡ depth_at table r
+      at zero less noted r (inl e) = put s.a row.a r holds.a_is (λ p. inl p) (inl (noted r (inl e)))
+      at zero less noted r (inr p) = put s.a row.a r holds.a_is (λ p. inl p) (inr p)
+      at (suc zero) less noted r (inl e) = put s.b row.b r holds.b_is (λ p. inr (inl p)) (inl (noted r (inl e)))
+      at (suc zero) less noted r (inr (inl p)) = put s.b row.b r holds.b_is (λ p. inr (inl p)) (inl (noted r (inr p)))
+      at (suc zero) less noted r (inr (inr p)) = put s.b row.b r holds.b_is (λ p. inr (inl p)) (inr p)
+      at (suc (suc zero)) less noted r (inl e) = put s.c row.c r holds.c_is (λ p. inr (inr p)) (inl (noted r (inl e)))
+      at (suc (suc zero)) less noted r (inr (inl p)) = put s.c row.c r holds.c_is (λ p. inr (inr p)) (inl (noted r (inr (inl p))))
+      at (suc (suc zero)) less noted r (inr (inr (inl p))) = put s.c row.c r holds.c_is (λ p. inr (inr p)) (inl (noted r (inr (inr p))))
+      at (suc (suc zero)) less noted r (inr (inr (inr p))) = put s.c row.c r holds.c_is (λ p. inr (inr p)) (inr p)
+      at (suc (suc (suc k))) less noted r now = absurd (omega arith)
 
-      c : Noted table s.c row.c after-b after-c
-      c = noted s.c row.c can_c (λ r p. inr (inr p)) after-b b.long
-
-      all : (r : ℕ) → (get_or xs r 0 ≡ depth_at table r) ⊎ IsChild (words table) r i → get_or after-c r 0 ≡ depth_at table r
-      all r (inl e) = c.noted r (inl (b.noted r (inl (a.noted r (inl e)))))
-      all r (inr (inl p)) = c.noted r (inl (b.noted r (inl (a.noted r (inr p)))))
-      all r (inr (inr (inl p))) = c.noted r (inl (b.noted r (inr p)))
-      all r (inr (inr (inr p))) = c.noted r (inr p)
+  -- with the children in its three words noted, those of every row from i on are
+  pub children-noted : {depths : Depths} {k : ℕ} → SunkTo before depths i k → k ≡ 3 → Sinking depths i
+  children-noted {depths} noted_all end = let all : SunkTo before depths i 3 = rw end at noted_all in record {
+    passes = rw all.same sinking.passes;
+    last = rw all.same (all.noted (rows_of table - 1) (inl (sinking.last ∙ sym (last_depth table sinking.passes))) ∙ last_depth table sinking.passes);
+    children = rw all.same (λ r q from below child. all.noted r (elim (ℕ_discrete q i) [
+      | yes e ↦ inr (subst (IsChild (words table) r) e child)
+      | no ne ↦ inl (sinking.children r q (omega arith) below child)
+    ]));
+  }
 
 -- with the last row at 1, the children of no row are noted
-pub sinking_none : (table : List ℕ) → Passes 3 table → (n : ℕ) → n ≡ rows_of table → Sinking table (set (replicate 1024 0) (n - 1) 1) (rows_of table)
-sinking_none table ok n e =
+pub sinking_none : {depths : Depths} → Passes 3 depths.table.now → (n : ℕ) → n ≡ rows_of depths.table.now
+    → depths.depths ≡ set (replicate 1024 0) (n - 1) 1 → Sinking depths (rows_of depths.table.now)
+sinking_none {depths} ok n e is =
     let none = replicate {A = ℕ} 1024 0 in
     let long = length-replicate {A = ℕ} 1024 0 in
     record {
       passes = ok;
-      last = rw (← e) (get_or-set_same none (n - 1) 1 0 (omega (arith, rows_between table ok, long)));
+      last = rw (is, ← e) (get_or-set_same none (n - 1) 1 0 (omega (arith, rows_between depths.table.now ok, long)));
       children = λ r q from below child. absurd (omega arith);
     }
 
 -- with the children of every row noted, what is noted of a row says whether it passes check 4
-pub depth_passes : {table xs : List ℕ} → Sinking table xs 0 → (r : ℕ) → r < rows_of table → leb (get_or xs r 0) 64 ≡ check4 (site_at table r)
+pub depth_passes : {depths : Depths} → Sinking depths 0 → (r : ℕ) → r < rows_of depths.table.now
+    → leb (get_or depths.depths r 0) 64 ≡ check4 (site_at depths.table.now r)
 unfolding check4
-depth_passes {table} sinking r h = rw (depth_noted sinking r (omega arith) h)
+depth_passes sinking r h = rw (depth_noted sinking r (omega arith) h)

@@ -1,23 +1,17 @@
 -- The code's table of shapes is the rules'.
-use Prim.Native.Nat.{ℕ, zero, suc, ◌≤◌, ◌<◌}
-use mathlib.Core.Path.{◌≡◌, refl, sym, ap, ◌∙◌}
-use mathlib.Core.List.{List, [], ◌∷◌, map}
+use Prim.Native.Nat.{ℕ, ◌≤◌, ◌<◌}
+use mathlib.Core.Path.{◌≡◌, sym, ap, ◌∙◌}
+use mathlib.Core.List.{map}
 use lib.Dec.{ltb}
-use lib.ListN.{get_or, length, get_or-map, get_or-eq_default}
+use lib.ListN.{get_or, get_or-map, get_or-eq_default}
 use borrow.Author.Tests.{ltb-true, ltb-false}
 use denote.Bor.{Bor}
-use native.Mathlib.Omega.{arith}
 use Rattle.std.specs.Prelude.{Option, Some, None, is_some, IfSome, unwrap_or}
 use Rattle.std.specs.Option.{option_copied}
+use Rattle.std.proofs.lemmas.List.{get_or_default}
 use Rattle.rules.specs.Rows.{kinds, unknown}
 use Rattle.table.specs.declared.shapes.Shape.{Shape}
 use Rattle.table.specs.Shapes.{as_shape}
-
--- an element of a list does not depend on what stands past its end
-get_or_inside : {A : Type 0} (xs : List A) (k : ℕ) (d e : A) → k < length xs → get_or xs k d ≡ get_or xs k e
-get_or_inside [] k d e below = absurd (omega arith)
-get_or_inside (x ∷ xs) zero d e below = refl
-get_or_inside (x ∷ xs) (suc k) d e below = get_or_inside xs k d e (omega arith)
 
 -- what is found in the table at a number is the shape of its kind, and past the table there is no kind
 pub shape_found :
@@ -26,7 +20,7 @@ pub shape_found :
 unfolding kinds
 shape_found (Some x) k some line =
     let below : k < 23 = ltb-true k 23 (sym some) in
-    line ∙ (get_or_inside (map as_shape kinds) k x.now (as_shape unknown) below ∙ get_or-map as_shape kinds k unknown)
+    line ∙ (get_or_default (map as_shape kinds) k x.now (as_shape unknown) below ∙ get_or-map as_shape kinds k unknown)
 shape_found None k none line =
     let past : 23 ≤ k = ltb-false k 23 (sym none) in
     sym (ap as_shape (get_or-eq_default kinds unknown {n = k} past))

@@ -6,6 +6,7 @@ use Rattle.rows.specs.Passed.{Passes}
 use Rattle.rows.specs.ByRow.{depth_at}
 use Rattle.rows.specs.Children.{IsChild}
 use Rattle.table.specs.declared.row.Row.{Row}
+use Rattle.table.specs.declared.depths.Depths.{Depths}
 
 -- a child is at a depth
 abbrev pub sunk : List ℕ → Option Row → ℕ → List ℕ
@@ -17,7 +18,8 @@ CanSink None = Unit {0}
 CanSink (Some child) = child.0 < 1024
 
 -- the depth of the last row and of each child of a row from i on is noted
-pub record Sinking (table xs : List ℕ) (i : ℕ) : Type 0 where
-  pub passes : Passes 3 table
-  pub last : get_or xs (rows_of table - 1) 0 ≡ 1
-  pub children : (r q : ℕ) → i ≤ q → q < rows_of table → IsChild (words table) r q → get_or xs r 0 ≡ depth_at table r
+pub record Sinking (depths : Depths) (i : ℕ) : Type 0 where
+  pub passes : Passes 3 depths.table.now
+  pub last : get_or depths.depths (rows_of depths.table.now - 1) 0 ≡ 1
+  pub children : (r q : ℕ) → i ≤ q → q < rows_of depths.table.now → IsChild (words depths.table.now) r q
+      → get_or depths.depths r 0 ≡ depth_at depths.table.now r

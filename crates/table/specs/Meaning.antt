@@ -12,7 +12,7 @@ use Rattle.table.specs.declared.shapes.Kind.{Kind}
 use Rattle.table.specs.declared.shapes.Kind.TheVariants.{Unknown, Number, Truth, Name, Both, Cond, Element, Input, Declare, Assign, For, Write, If, Out, Then}
 use Rattle.table.specs.Shapes.{as_kind}
 
--- the number of a type, the type as code holds it, and the type that it means
+-- the number of a type, and the type as code holds it
 abbrev pub type_number : rules.Ty → ℕ
 type_number rules.uint = 0
 type_number rules.bool = 1
@@ -20,10 +20,6 @@ type_number rules.bool = 1
 abbrev pub as_type : rules.Ty → Ty
 as_type rules.uint = Uint
 as_type rules.bool = Bool
-
-abbrev pub meant_type : Ty → rules.Ty
-meant_type Uint = rules.uint
-meant_type Bool = rules.bool
 
 -- the meaning of a kind and the words a, b and c
 abbrev pub meaning_of : Kind → ℕ → ℕ → ℕ → Meaning

@@ -1,5 +1,5 @@
 -- The table of shapes, as code holds it (document 01, "Rows").
-use Rattle.std.specs.Prelude.{ℕ, List, Option, Some, None}
+use Rattle.std.specs.Prelude.{ℕ, List, [], ◌∷◌, Option, Some, None}
 use Rattle.rules.specs.Rows as rules
 use Rattle.rules.specs.Rows.{Row, word, kind_at, unknown, is_e, is_s, of_number, of_truth, of_name, of_two, of_choose, of_element, of_input, shape_of}
 use Rattle.rules.specs.Rows.{of_declare, of_assign, of_loop, of_write, of_branch, of_out, of_then}
@@ -65,3 +65,11 @@ as_shape k = record { kind = as_kind k; sort = as_sort k; a = as_field (shape_of
 -- the words of row r of a table's words, with the shape of its kind
 abbrev pub row_words : List ℕ → Row → RowWords
 row_words t r = record { shape = as_shape (kind_at t r); a = word t r 1; b = word t r 2; c = word t r 3 }
+
+-- the children in the words of a row
+abbrev pub children : RowWords → List (Option code.Row)
+children read = child_in read.shape.a read.a ∷ child_in read.shape.b read.b ∷ child_in read.shape.c read.c ∷ []
+
+-- the words of a row, each with its field
+abbrev pub fields : RowWords → List (ℕ × Field)
+fields read = (read.a, read.shape.a) ∷ (read.b, read.shape.b) ∷ (read.c, read.shape.c) ∷ []

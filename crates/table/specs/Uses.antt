@@ -5,6 +5,7 @@ use Rattle.words.specs.Words.{words}
 use Rattle.rules.specs.Rows.{uses}
 use Rattle.rows.specs.Passed.{Passes}
 use Rattle.table.specs.declared.row.Row.{Row}
+use Rattle.table.specs.declared.uses.Tally.{Tally}
 
 -- one place more for a child
 abbrev pub counted : List ℕ → Option Row → List ℕ
@@ -16,6 +17,6 @@ CanCount xs None = Unit {0}
 CanCount xs (Some child) = (child.0 < 1024) × (get_or xs child.0 0 < 4294967295)
 
 -- the places that each row has in the rows below q are counted
-pub record Tallied (table xs : List ℕ) (q : ℕ) : Type 0 where
-  pub passes : Passes 2 table
-  pub are : (r : ℕ) → r < 1024 → get_or xs r 0 ≡ uses (words table) r q
+pub record Tallied (tally : Tally) (q : ℕ) : Type 0 where
+  pub passes : Passes 2 tally.table.now
+  pub are : (r : ℕ) → r < 1024 → get_or tally.uses r 0 ≡ uses (words tally.table.now) r q

@@ -8,8 +8,10 @@ ghost use Rattle.table.specs.Shapes.{meant_field};
 ghost use Rattle.table.specs.Checks.{Finds, FindsLowest, sort_below};
 ghost use Rattle.table.specs.declared.row.Row as code;
 
-use crate::row::{Row, row_count, word_at};
+use crate::row::{MAX_ROWS, Row, row_count, word_at};
 use crate::shapes::{Field, Sort, row_words, shape_of};
+
+// `Passes k` asks in each check for one check more than in the one before, so no two of these clauses say the same.
 
 // The lowest of the rows below a number that fails a test, as an error.
 pub fn lowest_failing<F: Fn(Row) -> bool>(rows: u32, passes: F) -> Result<(), Row>
@@ -29,30 +31,30 @@ pub fn fits(table: &[u8]) -> bool
     ensures { result ≡ table_fits table.now }
 {
     let n = table.len() / 4;
-    (table.len() % 4 == 0) & ((0 < n) & ((n % 4 == 0) & (n <= 4096)))
+    table.len() % 4 == 0 && 0 < n && n % 4 == 0 && n <= 4 * MAX_ROWS
 }
 
-// What row w is, as a child of a row: nothing where it is not lower.
+// What a child of a row is: nothing where it is not lower.
 #[tactic(auto, unfolding(rules::specs::Rows::kind_at))]
-fn child_sort(table: &[u8], row: Row, w: u32) -> Option<Sort>
+fn child_sort(table: &[u8], row: Row, child: Row) -> Option<Sort>
     requires { In table.now row.0 }
-    ensures { result ≡ sort_below (words table.now) row.0 w }
+    ensures { result ≡ sort_below (words table.now) row.0 child.0 }
 {
-    if w < row.0 {
-        shape_of(word_at(table, Row(w), 0)).sort
+    if child < row {
+        shape_of(word_at(table, child, 0)).sort
     } else {
         None
     }
 }
 
-// The word w of a row fits its field.
-fn fits_field(table: &[u8], row: Row, w: u32, field: Field) -> bool
+// A word of a row fits its field.
+fn fits_field(table: &[u8], row: Row, word: u32, field: Field) -> bool
     requires { In table.now row.0 }
-    ensures { result ≡ field_fits (words table.now) row.0 w (meant_field field) }
+    ensures { result ≡ field_fits (words table.now) row.0 word (meant_field field) }
 {
     match field {
-        Field::Within { low, high } => (low..=high).contains(&w),
-        Field::Child(sort) => child_sort(table, row, w) == Some(sort),
+        Field::Within { low, high } => (low..=high).contains(&word),
+        Field::Child(sort) => child_sort(table, row, Row(word)) == Some(sort),
     }
 }
 
@@ -62,12 +64,12 @@ fn row_shaped(table: &[u8], n: u32, row: Row) -> bool
     ensures { result ≡ row_shaped (words table.now) n row.0 }
 {
     let read = row_words(table, row);
-    let shape = read.shape;
-    let first = fits_field(table, row, read.a, shape.a);
-    let second = fits_field(table, row, read.b, shape.b);
-    let third = fits_field(table, row, read.c, shape.c);
-    let is_stmt = shape.sort == Some(Sort::Stmt);
-    (first & (second & third)) & (is_stmt | (row.0 + 1 != n))
+    for (word, field) in read.fields() {
+        if !fits_field(table, row, word, field) {
+            return false;
+        }
+    }
+    read.shape.sort == Some(Sort::Stmt) || row.0 + 1 != n
 }
 
 // Check 2, of a table that passes check 1.

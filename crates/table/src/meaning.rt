@@ -6,7 +6,7 @@ ghost use Rattle.rows.specs.Passed.{In};
 ghost use Rattle.table.specs.Meaning.{as_type, meaning_of, meaning_at};
 
 use crate::row::Row;
-use crate::shapes::{Kind, row_words};
+use crate::shapes::{Kind, RowWords, row_words};
 use circuit::gates::{Op, Value};
 
 // A type, 0 and 1 in a table.
@@ -27,7 +27,8 @@ impl From<u32> for Ty {
     }
 }
 
-// A row of no known kind means `Nothing`: every row has a meaning, and each match takes the fifteen in one place.
+// What a row means. A row of no kind means `Nothing`: `Option<Meaning>` is no plainer, as each pattern of each check would stand in `Some`,
+// for a row that check 2 has refused before any of them is asked.
 #[derive(Clone, Copy, Debug, PartialEq, Eq)]
 pub enum Meaning {
     Number {
@@ -55,6 +56,7 @@ pub enum Meaning {
     },
     Input {
         ty: Ty,
+        // 1 or 2 by check 2, and a number here: the gates of an input hold whatever number stands in the row.
         desk: u32,
         number: u32,
     },
@@ -93,64 +95,70 @@ pub enum Meaning {
     Nothing,
 }
 
-// The meaning of a kind and the words a, b and c.
-fn meaning_of(kind: Kind, a: u32, b: u32, c: u32) -> Meaning
-    ensures { result ≡ meaning_of kind a b c }
-{
-    match kind {
-        Kind::Unknown => Meaning::Nothing,
-        Kind::Number => Meaning::Number { value: Value(a) },
-        Kind::Truth => Meaning::Truth { value: Value(a) },
-        Kind::Name => Meaning::Name { name: a },
-        Kind::Both { op } => Meaning::Both {
-            op,
-            first: Row(a),
-            second: Row(b),
-        },
-        Kind::Cond => Meaning::Cond {
-            guard: Row(a),
-            first: Row(b),
-            second: Row(c),
-        },
-        Kind::Element => Meaning::Element {
-            name: a,
-            index: Row(b),
-        },
-        Kind::Input => Meaning::Input {
-            ty: Ty::from(a),
-            desk: b,
-            number: c,
-        },
-        Kind::Declare => Meaning::Declare {
-            name: a,
-            ty: Ty::from(b),
-            length: c,
-        },
-        Kind::Assign => Meaning::Assign {
-            name: a,
-            value: Row(b),
-        },
-        Kind::For => Meaning::For {
-            name: a,
-            body: Row(b),
-            first: c / 65536,
-            last: c % 65536,
-        },
-        Kind::Write => Meaning::Write {
-            name: a,
-            index: Row(b),
-            value: Row(c),
-        },
-        Kind::If => Meaning::If {
-            guard: Row(a),
-            first: Row(b),
-            second: Row(c),
-        },
-        Kind::Out => Meaning::Out { value: Row(a) },
-        Kind::Then => Meaning::Then {
-            first: Row(a),
-            second: Row(b),
-        },
+// The meaning of a row by its words.
+impl From<RowWords> for Meaning {
+    ghost from_gives = { λ read meaning. meaning ≡ meaning_of read.shape.kind read.a read.b read.c };
+
+    fn from(read: RowWords) -> Meaning {
+        match read.shape.kind {
+            Kind::Unknown => Meaning::Nothing,
+            Kind::Number => Meaning::Number {
+                value: Value(read.a),
+            },
+            Kind::Truth => Meaning::Truth {
+                value: Value(read.a),
+            },
+            Kind::Name => Meaning::Name { name: read.a },
+            Kind::Both { op } => Meaning::Both {
+                op,
+                first: Row(read.a),
+                second: Row(read.b),
+            },
+            Kind::Cond => Meaning::Cond {
+                guard: Row(read.a),
+                first: Row(read.b),
+                second: Row(read.c),
+            },
+            Kind::Element => Meaning::Element {
+                name: read.a,
+                index: Row(read.b),
+            },
+            Kind::Input => Meaning::Input {
+                ty: Ty::from(read.a),
+                desk: read.b,
+                number: read.c,
+            },
+            Kind::Declare => Meaning::Declare {
+                name: read.a,
+                ty: Ty::from(read.b),
+                length: read.c,
+            },
+            Kind::Assign => Meaning::Assign {
+                name: read.a,
+                value: Row(read.b),
+            },
+            Kind::For => Meaning::For {
+                name: read.a,
+                body: Row(read.b),
+                first: read.c / 65536,
+                last: read.c % 65536,
+            },
+            Kind::Write => Meaning::Write {
+                name: read.a,
+                index: Row(read.b),
+                value: Row(read.c),
+            },
+            Kind::If => Meaning::If {
+                guard: Row(read.a),
+                first: Row(read.b),
+                second: Row(read.c),
+            },
+            Kind::Out => Meaning::Out { value: Row(read.a) },
+            Kind::Then => Meaning::Then {
+                first: Row(read.a),
+                second: Row(read.b),
+            },
+        }
     }
 }
 
@@ -160,6 +168,5 @@ pub fn meaning_at(table: &[u8], row: Row) -> Meaning
     requires { In table.now row.0 }
     ensures { result ≡ meaning_at (words table.now) row.0 }
 {
-    let read = row_words(table, row);
-    meaning_of(read.shape.kind, read.a, read.b, read.c)
+    Meaning::from(row_words(table, row))
 }

@@ -4,12 +4,13 @@ ghost use Rattle.words.specs.Words.{words};
 ghost use Rattle.rules.specs.Rows as rules;
 ghost use Rattle.rules.specs.Rows.{kinds};
 ghost use Rattle.rows.specs.Passed.{In};
-ghost use Rattle.table.specs.Shapes.{as_shape, child_in, row_words};
+ghost use Rattle.table.specs.Shapes.{as_shape, child_in, children, fields, row_words};
 
 use crate::row::{Row, word_at};
 use circuit::gates::Op;
 
-// The kinds of rows. A number that is no kind is `Unknown`, as in the rules: so every row has a kind and a shape.
+// The kinds of rows. A number that is no kind is `Unknown`, as in the rules, where every number has a kind and a shape (the clause of
+// `shape_of`). `Option<Kind>` is no plainer: each pattern of each later check would stand in `Some`, for a row that check 2 has refused.
 #[derive(Clone, Copy, Debug, PartialEq, Eq)]
 pub enum Kind {
     Unknown,
@@ -64,7 +65,7 @@ pub struct RowWords {
 
 const ANY: Field = Field::Within {
     low: 0,
-    high: 4294967295,
+    high: u32::MAX,
 };
 
 const ZERO: Field = Field::Within { low: 0, high: 0 };
@@ -142,6 +143,23 @@ impl Field {
             Field::Within { .. } => None,
             Field::Child(_) => Some(Row(word)),
         }
+    }
+}
+
+impl RowWords {
+    // The words of a row, each with its field.
+    pub fn fields(self) -> [(u32, Field); 3]
+        ensures { result ≡ fields self }
+    {
+        let shape = self.shape;
+        [(self.a, shape.a), (self.b, shape.b), (self.c, shape.c)]
+    }
+
+    // The children of a row, by the words that hold them.
+    pub fn children(self) -> [Option<Row>; 3]
+        ensures { result ≡ children self }
+    {
+        self.fields().map(|(word, field)| field.child(word))
     }
 }
 

@@ -3,51 +3,59 @@ ghost use Rattle.std.specs.Prelude.{◌≡◌, ◌+◌, ◌<◌};
 ghost use Rattle.rules.specs.Answers.{rows_of, failing3};
 ghost use Rattle.rows.specs.Passed.{Passes};
 ghost use Rattle.table.specs.Checks.{Finds};
-ghost use Rattle.table.specs.Uses.{CanCount, counted, Tallied};
 
 use crate::checks::lowest_failing;
-use crate::row::{Row, row_count};
+use crate::row::{MAX_ROWS, Row, row_count};
 use crate::shapes::row_words;
 
-// One more place for a child.
-fn count_child(uses: &mut [u32; 1024], child: Option<Row>)
-    requires { CanCount uses.old child }
-    ensures { uses.new ≡ counted uses.old child }
-{
-    if let Some(child) = child {
-        uses[child.0 as usize] += 1;
+// A table with a counter for each of its rows. Each step says that it keeps the table: lent apart, the two would travel together.
+#[derive(Drop)]
+struct Tally<'a> {
+    table: &'a [u8],
+    uses: [u32; MAX_ROWS],
+}
+
+impl<'a> Tally<'a> {
+    ghost use Rattle.table.specs.Uses.{CanCount, counted, Tallied};
+
+    // One more place for a child.
+    fn count_child(&mut self, child: Option<Row>)
+        requires { CanCount self.old.uses child }
+        ensures { (self.new.table ≡ self.old.table) × (self.new.uses ≡ counted self.old.uses child) }
+    {
+        if let Some(child) = child {
+            self.uses[child.0 as usize] += 1;
+        }
     }
-}
 
-// The places of a row's children are counted, after those of the rows below it.
-fn count_children(table: &[u8], uses: &mut [u32; 1024], row: Row)
-    requires { Tallied table.now uses.old row.0 × (row.0 < rows_of table.now) }
-    ensures { Tallied table.now uses.new (row.0 + 1) }
-{
-    let read = row_words(table, row);
-    let shape = read.shape;
-    count_child(uses, shape.a.child(read.a));
-    count_child(uses, shape.b.child(read.b));
-    count_child(uses, shape.c.child(read.c));
-}
-
-// The places of all rows are counted.
-fn count_all(table: &[u8], uses: &mut [u32; 1024])
-    requires { Tallied table.now uses.old 0 }
-    ensures { Tallied table.now uses.new (rows_of table.now) }
-{
-    for i in 0..row_count(table) {
-        count_children(table, uses, Row(i));
+    // The places of a row's children are counted, after those of the rows below it.
+    fn count_children(&mut self, row: Row)
+        requires { Tallied self.old row.0 × (row.0 < rows_of self.old.table.now) }
+        ensures { (self.new.table ≡ self.old.table) × Tallied self.new (row.0 + 1) }
+    {
+        for child in row_words(self.table, row).children() {
+            self.count_child(child);
+        }
     }
-}
 
-// The lowest row but the last that has not exactly one place.
-fn lowest_misused(table: &[u8], uses: &[u32; 1024]) -> Result<(), Row>
-    requires { Tallied table.now uses.now (rows_of table.now) }
-    ensures { Finds (failing3 table.now) result }
-{
-    let n = row_count(table);
-    lowest_failing(n, |row| { row.0 + 1 == n || uses[row.0 as usize] == 1 })
+    // The places of all rows are counted.
+    fn count_all(&mut self)
+        requires { Tallied self.old 0 }
+        ensures { (self.new.table ≡ self.old.table) × Tallied self.new (rows_of self.old.table.now) }
+    {
+        for i in 0..row_count(self.table) {
+            self.count_children(Row(i));
+        }
+    }
+
+    // The lowest row but the last that has not exactly one place.
+    fn lowest_misused(&self) -> Result<(), Row>
+        requires { Tallied self.now (rows_of self.now.table.now) }
+        ensures { Finds (failing3 self.now.table.now) result }
+    {
+        let n = row_count(self.table);
+        lowest_failing(n, |row| row.0 + 1 == n || self.uses[row.0 as usize] == 1)
+    }
 }
 
 // Check 3, of a table that passes check 2.
@@ -55,7 +63,10 @@ pub fn check_uses(table: &[u8]) -> Result<(), Row>
     requires { Passes 2 table.now }
     ensures { Finds (failing3 table.now) result }
 {
-    let mut uses = [0u32; 1024];
-    count_all(table, &mut uses);
-    lowest_misused(table, &uses)
+    let mut tally = Tally {
+        table,
+        uses: [0; MAX_ROWS],
+    };
+    tally.count_all();
+    tally.lowest_misused()
 }

@@ -1,7 +1,6 @@
 -- The laws of words in bytes: what a put changes, what words are read back, and words over a memory.
 use mathlib.Core.Path.{◌≡◌, refl, sym, ap, ap₂, ◌∙◌}
 use Prim.Native.Nat.{ℕ, zero, suc, ◌+◌, ◌*◌, ◌/◌, ◌%◌, ◌^◌, ◌≤◌, ◌<◌}
-use native.Mathlib.Nat.{div-div-eq-div-mul, div-add-mod', mod-eq_of_lt}
 use native.Mathlib.Omega.{arith}
 use mathlib.Core.Bool.{Bool, true, false}
 use mathlib.Core.List.{List, [], ◌∷◌, ◌++◌, append-nil}
@@ -9,7 +8,9 @@ use lib.Dec.{eqb}
 use borrow.Author.Tests.{eqb-true, eqb-false}
 use lib.ListN.{length, get_or, set, take, drop, length-set, length-append, length-drop, get_or-append}
 use lib.Seq.{get_or-set_same, get_or-set_other, ext_get_or, take_at}
+use Rattle.std.proofs.lemmas.Nat.{from_le_bytes-to_le_bytes_4}
 use Rattle.words.specs.Words.{joined, put_at, words, bytes_of, over, AllWords, AllBytes}
+use Rattle.words.proofs.LittleEndian.{joined_le}
 
 -- word i, read off its four bytes
 abbrev pub word_at : List ℕ → ℕ → ℕ
@@ -28,19 +29,9 @@ put_else b i w j h =
     let h3 : j ≡ 4 * i + 3 → ⊥ = λ e. h (omega arith) (omega arith) in
     rw (get_or-set_other, get_or-set_other, get_or-set_other, get_or-set_other)
 
--- four digits, each over the rest of its number
-digits : (w x y z a b c : ℕ) → x * 256 + a ≡ w → y * 256 + b ≡ x → z * 256 + c ≡ y → joined a b c z ≡ w
-digits w x y z a b c p q r = omega arith
-
 -- the four bytes of a word, joined, are the word
 pub split_joined : (w : ℕ) → w < 2 ^ 32 → joined (w % 256) (w / 256 % 256) (w / 65536 % 256) (w / 16777216 % 256) ≡ w
-split_joined w h =
-    let top : w / 16777216 % 256 ≡ w / 16777216 = mod-eq_of_lt (omega arith) in
-    rw top
-    (digits w (w / 256) (w / 65536) (w / 16777216) (w % 256) (w / 256 % 256) (w / 65536 % 256)
-    (div-add-mod' w 256)
-    (rw (div-div-eq-div-mul w 256 256) at (div-add-mod' (w / 256) 256))
-    (rw (div-div-eq-div-mul w 65536 256) at (div-add-mod' (w / 65536) 256)))
+split_joined w h = sym (joined_le _ _ _ _) ∙ from_le_bytes-to_le_bytes_4 w h
 
 -- put, then read the same word
 pub put_same : (b : List ℕ) (i w : ℕ) → 4 * i + 4 ≤ length b → w < 2 ^ 32 → word_at (put_at b i w) i ≡ w

@@ -1,8 +1,8 @@
 // Words in lent bytes: four bytes to a word, the lowest first. Word i lies at bytes 4i to 4i + 3.
 #![tactic(auto)]
 
-ghost use Rattle.std.specs.Prelude.{◌≡◌, ◌+◌, ◌*◌, ◌%◌, ◌≤◌, length, get_or};
-ghost use Rattle.words.specs.Words.{joined, put_at, words};
+ghost use Rattle.std.specs.Prelude.{◌≡◌, ◌+◌, ◌*◌, ◌≤◌, length, get_or};
+ghost use Rattle.words.specs.Words.{put_at, words};
 
 // Word i of the bytes.
 pub fn get(b: &[u8], i: usize) -> u32
