@@ -1,14 +1,13 @@
 -- Check 21 gate by gate: what holds after the first gates, and what follows when a gate breaks the rules or none is left.
-use Rattle.std.proofs.Common.{◌≡◌, ℕ, ◌+◌, ◌/◌, ◌<◌, ◌≤◌, true, false, T, List, [], ◌∷◌, length, refl, add-one, arith}
+use Rattle.std.proofs.Common.{◌≡◌, ℕ, ◌+◌, ◌<◌, ◌≤◌, true, false, T, List, [], ◌∷◌, length, refl, add-one, arith}
 use Rattle.std.specs.Prelude.{Option}
 use mathlib.Core.Option as maybe
 use Rattle.std.proofs.lemmas.Grind.{common_steps}
 use Rattle.arrayvec.specs.ArrayVec.{ArrayVec}
 use Rattle.words.specs.Words.{words}
-use Rattle.words.proofs.Words.{words-length}
 use Rattle.rules.specs.Places.{failing_below}
 use Rattle.rules.specs.Refusals.{Lowest}
-use Rattle.rules.specs.Gates.{Gate, gate_at, gate_count, gates_to, keeps_rules, gate_keeps, check21, circuit_fits}
+use Rattle.rules.specs.Gates.{Gate, gate_at, gate_count, gates_to, keeps_rules, gate_keeps, check21}
 use Rattle.rules.specs.Answers.{gates_of, failing21}
 use Rattle.rules.proofs.Basics.{of_true}
 use Rattle.rules.proofs.Places.{first_fails, passes_on}
@@ -19,17 +18,6 @@ use Rattle.circuit.specs.Gates.{meant}
 use Rattle.circuit.specs.Slots.{sort_at}
 use Rattle.circuit.specs.Noted.{WiresNoted, InputsNoted, InputIn, kept}
 use Rattle.circuit.proofs.CheckLaws.{noted_none, nothing_noted, input_in}
-
--- a circuit has as many gates as it has twenties of bytes,
-pub gates_in_lem : (circuit : List ℕ) → gate_count (words circuit) ≡ length circuit / 20
-unfolding gate_count
-gates_in_lem circuit = let n = words-length circuit in omega (arith, n)
-
--- and, if it passes check 20, at most 3,000
-pub gates_at_most : (circuit : List ℕ) → T (circuit_fits circuit) → length circuit / 20 ≤ 3000
-unfolding circuit_fits
-gates_at_most circuit fits =
-    let whole = words-length circuit in grind (arith, common_steps)
 
 -- the first i gates keep the rules, and what they make and read is noted
 pub record Passed (circuit : List ℕ) (sorts : ArrayVec code.Sort) (seen : List (Option code.Sort)) (i : ℕ) : Type 0 where
@@ -61,11 +49,11 @@ module _ {circuit : List ℕ} {sorts : ArrayVec code.Sort} {seen : List (Option 
   passed_wires = omega (arith, passed.wires_noted.count, wires-below (words circuit) i)
 
   -- where gate i is not kept, it is the lowest that breaks the rules
-  pub passed_breaks : i < length circuit / 20 → maybe.none ≡ kept (gates_to (words circuit) i) (gate_at (words circuit) i)
+  pub passed_breaks : i < gate_count (words circuit) → maybe.none ≡ kept (gates_to (words circuit) i) (gate_at (words circuit) i)
       → Lowest i (failing21 (words circuit))
   unfolding failing21 check21
   passed_breaks more breaks =
-      first_fails (check21 (words circuit)) i (gate_count (words circuit)) passed.none_fails (omega (arith, gates_in_lem circuit))
+      first_fails (check21 (words circuit)) i (gate_count (words circuit)) passed.none_fails more
       (kept_none _ _ breaks)
 
   -- with a gate more that is kept
@@ -88,8 +76,6 @@ module _ {circuit : List ℕ} {sorts : ArrayVec code.Sort} {seen : List (Option 
   passed_in gate found = input_in gate _ (of_true _ (kept_some _ _ found).1)
 
   -- with all gates
-  pub passed_all : i ≡ length circuit / 20 → (failing21 (words circuit) ≡ []) × WiresNoted (gates_of circuit) sorts
+  pub passed_all : i ≡ gate_count (words circuit) → (failing21 (words circuit) ≡ []) × WiresNoted (gates_of circuit) sorts
   unfolding failing21 gates_of
-  passed_all all =
-      let last : i ≡ gate_count (words circuit) = omega (arith, gates_in_lem circuit) in
-      (rw (← last) passed.none_fails, rw (← last) passed.wires_noted)
+  passed_all all = (rw (← all) passed.none_fails, rw (← all) passed.wires_noted)

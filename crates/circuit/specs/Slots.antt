@@ -1,4 +1,5 @@
--- The table of inputs read: its places, the sort that stands at one, and whether another sort than a given one does.
+-- The table of inputs read: its places, the sort that stands at one, and whether another sort than a given one does. Only
+-- functions inside the desk cite it.
 use Rattle.std.specs.Prelude.{ℕ, ◌+◌, ◌-◌, ◌*◌, ◌<◌, Bool, false, not, List, Option, None, Some, slice_index_or}
 use Rattle.rules.specs.Sorts.{same}
 use Rattle.circuit.specs.declared.sorts.Sort.{Sort}

@@ -1,5 +1,5 @@
 // Checks 20 and 21: a circuit's length, and the rules that each gate keeps after those before it.
-ghost use Rattle.std.specs.Prelude.{◌≡◌, ℕ, ◌+◌, ◌*◌, ◌&&◌, ◌∷◌, ◌<◌, ◌≤◌, T, List, Option, None, Some, length, slice_get, slice_set};
+ghost use Rattle.std.specs.Prelude.{◌≡◌, ℕ, ◌+◌, ◌*◌, ◌&&◌, ◌∷◌, ◌<◌, ◌≤◌, T, List, Option, None, Some, length, slice_get, slice_set, IsSome};
 ghost use Rattle.arrayvec.specs.ArrayVec.{array_vec_len};
 ghost use Rattle.words.specs.Words.{words};
 ghost use Rattle.rules.specs.Gates.{gate_at, is_wire, is_next, keeps_rules, circuit_fits};
@@ -8,7 +8,7 @@ ghost use Rattle.circuit.specs.Sorts.{meant_sort};
 ghost use Rattle.circuit.specs.Gates.{meant, meant_gate};
 ghost use Rattle.circuit.specs.Noted.{WiresNoted, InputsNoted, InputIn, arms_alike, converts_to, may_read, kept, sort_made, GatesChecked};
 
-use crate::gates::{Gate, Read, Wire, gate_at};
+use crate::gates::{Gate, Read, Wire, gate_at, gate_count};
 use crate::sorts::Sort;
 use arrayvec::ArrayVec;
 
@@ -19,11 +19,12 @@ pub type WireSorts = ArrayVec<Sort, 3000>;
 pub fn fits(circuit: &[u8]) -> bool
     ensures { result ≡ circuit_fits circuit.now }
 {
-    (circuit.len() % 4 == 0) & ((circuit.len() / 4 % 5 == 0) & (circuit.len() / 4 <= 15000))
+    let n = circuit.len() / 4;
+    circuit.len() % 4 == 0 && n % 5 == 0 && n <= 15000
 }
 
-// What follows on wires and gates are functions and no methods: the sorts are of a type of the kit, and a gate's own file knows
-// nothing of checks.
+// Functions and no methods: a struct round the kit's type would only stand before each use of it. That the sorts are those of some
+// gates is no invariant of a type either: the gates are others with each call.
 
 // The sort of a wire, of the wires so far.
 fn made(sorts: &WireSorts, wire: Wire) -> Option<Sort>
@@ -73,23 +74,20 @@ impl InputSorts {
         InputSorts { sorts: [None; 128] }
     }
 
-    // The place of an input in the table.
-    fn slot(desk: u32, number: u32) -> usize
-        requires { InTable desk number }
-        ensures { result ≡ slot_of desk number }
+    // The place of an input in the table: of desk 1 or 2, its number below 64.
+    fn slot(desk: u32, number: u32) -> Option<usize>
+        ensures inside { InTable desk number → result ≡ Some (slot_of desk number) }
+        ensures only_inside { IsSome result → InTable desk number }
     {
-        (64 * (desk - 1) + number) as usize
+        (matches!(desk, 1 | 2) && number < 64).then(|| (64 * (desk - 1) + number) as usize)
     }
 
-    // The sort at which an input was read; no input outside the table is.
+    // The sort at which an input was read.
     fn at(&self, desk: u32, number: u32) -> Option<Sort>
         ensures { InTable desk number → result ≡ sort_at self.now.sorts desk number }
     {
-        if matches!(desk, 1 | 2) && number < 64 {
-            self.sorts[InputSorts::slot(desk, number)]
-        } else {
-            None
-        }
+        let k = InputSorts::slot(desk, number)?;
+        self.sorts[k]
     }
 
     // An earlier gate reads the input at another sort.
@@ -106,24 +104,24 @@ impl InputSorts {
         requires { InTable read.desk read.number }
         ensures { self.new.sorts ≡ slice_set self.old.sorts (slot_of read.desk read.number) (Some read.sort) }
     {
-        let k = InputSorts::slot(read.desk, read.number);
-        self.sorts[k] = Some(read.sort);
+        if let Some(k) = InputSorts::slot(read.desk, read.number) {
+            self.sorts[k] = Some(read.sort);
+        }
     }
 
     // An input is of desk 1 or 2, its number below 64, arithmetic or a bit, and no earlier gate reads it at another sort.
-    fn allow(&self, read: Read) -> bool
+    fn allows(&self, read: Read) -> bool
         ensures { (gs : List rules.Gate) → InputsNoted gs self.now.sorts
             → result ≡ may_read gs read.desk read.number (meant_sort read.sort) }
     {
-        matches!(read.desk, 1 | 2)
-            && read.number < 64
+        InputSorts::slot(read.desk, read.number).is_some()
             && read.sort != Sort::BOOLEAN
             && !self.clashes(read)
     }
 
-    // The input that a gate reads, if it keeps the rules, is noted.
+    // Of a gate that keeps the rules, the input that it reads is noted.
     #[tactic(auto, unfolding(rules::specs::Gates::keeps_rules, rules::specs::Gates::clashes))]
-    fn note_gate(&mut self, gate: Gate)
+    fn note_input_of(&mut self, gate: Gate)
         requires { InputIn gate }
         ensures { (gs : List rules.Gate) → InputsNoted gs self.old.sorts → T (keeps_rules gs (meant gate))
             → InputsNoted (meant gate ∷ gs) self.new.sorts }
@@ -174,7 +172,7 @@ fn keeps(gate: Gate, sorts: &WireSorts, inputs: &InputSorts) -> bool
         }
         Gate::Constant { value, sort, new } => sort.holds(value.0) && is_next(sorts, new),
         Gate::Convert { wire, sort, new } => converts(sorts, wire, sort) && is_next(sorts, new),
-        Gate::Input { read, new } => inputs.allow(read) && is_next(sorts, new),
+        Gate::Input { read, new } => inputs.allows(read) && is_next(sorts, new),
         Gate::Out { wire } => made(sorts, wire).is_some(),
     }
 }
@@ -203,7 +201,7 @@ fn sort_made(gate: Gate, sorts: &WireSorts) -> Option<Sort>
     }
 }
 
-// The wire that a gate makes, if it keeps the rules, is noted.
+// Of a gate that keeps the rules, the wire that it makes is noted.
 #[tactic(auto, using(crate::proofs::CheckLaws::wire_after, crate::proofs::CheckLaws::no_wire_after))]
 fn note_wire(gate: Gate, sorts: &mut WireSorts)
     requires { array_vec_len sorts.old < 3000 }
@@ -222,16 +220,17 @@ pub struct BrokenGate {
 }
 
 // Check 21, of a circuit that passes check 20. The sorts of its wires are noted, in place of what was noted before.
+// (Lent, not returned: returned, 3,000 bytes would be copied by memcpy, and include/desk.h promises memset alone.)
 pub fn check_gates(circuit: &[u8], sorts: &mut WireSorts) -> Result<(), BrokenGate>
     requires { T (circuit_fits circuit.now) }
     ensures { GatesChecked circuit.now sorts.new result }
 {
     sorts.clear();
     let mut inputs = InputSorts::new();
-    for i in 0..circuit.len() / 20 {
+    for i in 0..gate_count(circuit) {
         let gate = kept_gate(circuit, i, sorts, &inputs).ok_or(BrokenGate { gate: i as u32 })?;
         note_wire(gate, sorts);
-        inputs.note_gate(gate);
+        inputs.note_input_of(gate);
     }
     Ok(())
 }

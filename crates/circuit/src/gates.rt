@@ -2,7 +2,7 @@
 ghost use Rattle.std.specs.Prelude.{◌≡◌, ◌+◌, ◌*◌, ◌≤◌, length, slice_index_or};
 ghost use Rattle.words.specs.Words.{words};
 ghost use Rattle.rules.specs.Sorts.{side_at, result_at, applied};
-ghost use Rattle.rules.specs.Gates.{no_gate, gate_kinds, gate_of, gate_at};
+ghost use Rattle.rules.specs.Gates.{no_gate, gate_kinds, gate_of, gate_at, gate_count};
 ghost use Rattle.circuit.specs.Gates.{meant_gate};
 
 use crate::sorts::Sort;
@@ -121,52 +121,59 @@ impl Gate {
     }
 }
 
-// The gate of a kind and four words more. The words that a kind does not list are 0, and its sort is a sort.
-#[tactic(auto, unfolding(rules::specs::Gates::gate_of, rules::specs::Gates::gate_kinds))]
-fn gate_of(kind: u32, a: u32, b: u32, c: u32, d: u32) -> Option<Gate>
-    ensures { meant_gate result ≡ gate_of (slice_index_or gate_kinds kind no_gate) a b c d }
+// The gate of five words. The words that a kind does not list are 0, and its sort is a sort.
+#[tactic(auto, unfolding(rules::specs::Gates::gate_at, rules::specs::Gates::gate_word, rules::specs::Gates::gate_of, rules::specs::Gates::gate_kinds))]
+fn gate_of(words: [u32; 5]) -> Option<Gate>
+    ensures { meant_gate result ≡ gate_at words 0 }
 {
-    let gate = match (kind, b, c, d) {
-        (1, _, _, 0) => Gate::Both {
+    let gate = match words {
+        [1, first, second, new, 0] => Gate::Both {
             op: Op::Add,
-            first: Wire(a),
-            second: Wire(b),
-            new: Wire(c),
+            first: Wire(first),
+            second: Wire(second),
+            new: Wire(new),
         },
-        (2, _, _, _) => Gate::Mux {
-            guard: Wire(a),
-            first: Wire(b),
-            second: Wire(c),
-            new: Wire(d),
+        [2, guard, first, second, new] => Gate::Mux {
+            guard: Wire(guard),
+            first: Wire(first),
+            second: Wire(second),
+            new: Wire(new),
         },
-        (3, _, _, 0) => Gate::Both {
+        [3, first, second, new, 0] => Gate::Both {
             op: Op::Greater,
-            first: Wire(a),
-            second: Wire(b),
-            new: Wire(c),
+            first: Wire(first),
+            second: Wire(second),
+            new: Wire(new),
         },
-        (4, _, _, 0) => Gate::Constant {
-            value: Value(a),
-            sort: Sort::try_from(b).ok()?,
-            new: Wire(c),
+        [4, value, sort, new, 0] => Gate::Constant {
+            value: Value(value),
+            sort: Sort::try_from(sort).ok()?,
+            new: Wire(new),
         },
-        (5, _, _, 0) => Gate::Convert {
-            wire: Wire(a),
-            sort: Sort::try_from(b).ok()?,
-            new: Wire(c),
+        [5, wire, sort, new, 0] => Gate::Convert {
+            wire: Wire(wire),
+            sort: Sort::try_from(sort).ok()?,
+            new: Wire(new),
         },
-        (6, _, _, _) => Gate::Input {
+        [6, desk, number, sort, new] => Gate::Input {
             read: Read {
-                desk: a,
-                number: b,
-                sort: Sort::try_from(c).ok()?,
+                desk,
+                number,
+                sort: Sort::try_from(sort).ok()?,
             },
-            new: Wire(d),
+            new: Wire(new),
         },
-        (7, 0, 0, 0) => Gate::Out { wire: Wire(a) },
+        [7, wire, 0, 0, 0] => Gate::Out { wire: Wire(wire) },
         _ => return None,
     };
     Some(gate)
+}
+
+// How many gates a circuit has.
+pub fn gate_count(circuit: &[u8]) -> usize
+    ensures { result ≡ gate_count (words circuit.now) }
+{
+    circuit.len() / 20
 }
 
 // Gate i of a circuit.
@@ -175,11 +182,11 @@ pub fn gate_at(circuit: &[u8], i: usize) -> Option<Gate>
     ensures { meant_gate result ≡ gate_at (words circuit.now) i }
 {
     let k = 5 * i;
-    gate_of(
+    gate_of([
         words::get(circuit, k),
         words::get(circuit, k + 1),
         words::get(circuit, k + 2),
         words::get(circuit, k + 3),
         words::get(circuit, k + 4),
-    )
+    ])
 }

@@ -26,12 +26,28 @@ impl TryFrom<u32> for Sort {
     ghost try_from_gives = { Numbered };
 
     #[tactic(auto, unfolding(rules::specs::Sorts::sort_numbered))]
-    fn try_from(number: u32) -> Result<Self, UnknownSort> {
+    fn try_from(number: u32) -> Result<Self, Self::Error> {
         match number {
             1 => Ok(Sort::ARITHMETIC),
             2 => Ok(Sort::BOOLEAN),
             3 => Ok(Sort::BIT),
             _ => Err(UnknownSort),
+        }
+    }
+}
+
+// The number of a sort, as a gate has it. (For compiling.)
+impl From<Sort> for u32 {
+    ghost use Rattle.rules.specs.Sorts.{sort_number};
+    ghost use Rattle.circuit.specs.Sorts.{meant_sort};
+
+    ghost from_gives = { λ sort number. number ≡ sort_number (meant_sort sort) };
+
+    fn from(sort: Sort) -> u32 {
+        match sort {
+            Sort::Arithmetic => 1,
+            Sort::Boolean => 2,
+            Sort::Bit => 3,
         }
     }
 }

@@ -15,7 +15,7 @@ use Rattle.rules.specs.Gates.{Gate, wires, gate_count, circuit_fits}
 use Rattle.rules.specs.Plain.{inputs}
 use Rattle.rules.specs.Shares.{tape_for, shared}
 use Rattle.rules.specs.Answers.{Lent, evaluation, evaluate, evaluate_answer, leaves_one, leaves_two, leaves_outs}
-use Rattle.rules.specs.Answers.{gates_of, out_count, FitInputs, failing20, failing21, failing24, failing25}
+use Rattle.rules.specs.Answers.{gates_of, out_count, failing20, failing21, failing24, failing25}
 use Rattle.rules.specs.Refusals.{Lowest, Clear, evaluate_checks, Evaluates}
 use Rattle.rules.proofs.Basics.{of_true}
 use Rattle.rules.proofs.Places.{none_fault, lowest_fault}
@@ -23,14 +23,12 @@ use Rattle.rules.proofs.Refusals.{evaluates}
 use Rattle.rules.proofs.Memories.{passed_25}
 use Rattle.rules.proofs.Circuits.{wires_and_outs, outs_of_shares}
 use Rattle.rules.proofs.Earlier.{gates_all}
-use Rattle.circuit.proofs.PassLaws.{gates_in_lem, gates_at_most}
-use Rattle.circuit.specs.declared.sorts.Sort.{Sort}
-use Rattle.circuit.specs.Noted.{WiresNoted}
+use Rattle.circuit.proofs.GateLaws.{gates_at_most}
 use Rattle.evaluate.specs.declared.Refusal.{Refusal}
 use Rattle.evaluate.specs.declared.Refusal.TheVariants.{CircuitLength, GateBreaksRules, InputMissing, InputNoBool, TapeShort, MemoryShort}
 use Rattle.evaluate.specs.declared.desks.Run.{Run}
 use Rattle.evaluate.specs.InputChecks.{InputsRefused}
-use Rattle.evaluate.specs.Held.{Contents, Ready, Done}
+use Rattle.evaluate.specs.Held.{Contents, Allowed, Ready, Done, lent_to}
 use Rattle.evaluate.specs.Promise.{Promise, answered, refusal_number, refusal_place}
 
 -- a refusal by a line of the table answers its number and place, and leaves every memory as it was
@@ -66,7 +64,7 @@ module _ (l : Lent) where
   pass_24 h = rw (le-leb (wires gs).count (length (words l.tape)) (omega (arith, words-length l.tape))) (none_fault true 0 tt)
 
   -- 25: the code's test is the check's
-  abbrev room : Bool
+  abbrev pub room : Bool
   room = leb (wires gs).count (length l.shares1 / 4)
       && (leb (wires gs).count (length l.shares2 / 4) && leb (out_count gs) (length l.outputs / 4))
 
@@ -88,100 +86,87 @@ module _ (l : Lent) where
   pub promise_21 : {p : ℕ} → circuit_fits l.circuit ≡ true → Lowest p (failing21 (words l.circuit)) → Refuses l (GateBreaksRules p)
   promise_21 fits low = promise_refused l (GateBreaksRules _) (Evaluates.with_21 (pass_20 (of_true _ fits), tt) low)
 
--- A run reads what was lent, and the sorts.
-pub record Reads (run : Run) (l : Lent) (sorts : List Sort) : Type 0 where
-  pub circuit_is : run.circuit.now ≡ l.circuit
-  pub sorts_are : run.sorts.now ≡ sorts
-  pub one_is : run.inputs.one.now ≡ l.inputs1
-  pub two_is : run.inputs.two.now ≡ l.inputs2
-  pub tape_is : run.tape.now ≡ l.tape
+  -- 22 and 23, where the checks before pass
+  pub promise_inputs : T (circuit_fits l.circuit) → failing21 (words l.circuit) ≡ [] → (why : Refusal)
+      → InputsRefused l.circuit l.inputs1 l.inputs2 why → Refuses l why
+  promise_inputs fits keeps (InputMissing p) low = promise_refused l (InputMissing p) (Evaluates.with_22 (pass_20 fits, (keeps, tt)) low)
+  promise_inputs fits keeps (InputNoBool p) (no_22, low) =
+      promise_refused l (InputNoBool p) (Evaluates.with_23 (pass_20 fits, (keeps, (no_22, tt))) low)
+  promise_inputs fits keeps _ h = absurd h
 
--- the memories as they are lent
-abbrev pub lent_contents : Lent → Contents
-lent_contents l = record { one = l.shares1; two = l.shares2; outs = l.outputs }
+-- A run that the checks before allow, over lent memories.
+module _ {run : Run} (lent : Contents) (allowed : Allowed run) where
+  abbrev l : Lent
+  l = lent_to run lent
 
--- The gates pass, and make w wires, which are noted with their sorts.
-pub record GatesPass (l : Lent) (sorts : List Sort) (w : ℕ) : Type 0 where
-  pub fits : T (circuit_fits l.circuit)
-  pub keeps : failing21 (words l.circuit) ≡ []
-  pub noted : WiresNoted (gates_of l.circuit) (record { items = sorts })
-  pub all_wires : w ≡ length sorts
+  abbrev made : List Gate
+  made = gates_of run.circuit.now
 
-module _ {l : Lent} {sorts : List Sort} {w : ℕ} (gates : GatesPass l sorts w) where
-  pub promise_inputs : (why : Refusal) → InputsRefused l.circuit l.inputs1 l.inputs2 why → Refuses l why
-  promise_inputs (InputMissing p) low = promise_refused l (InputMissing p) (Evaluates.with_22 (pass_20 l gates.fits, (gates.keeps, tt)) low)
-  promise_inputs (InputNoBool p) (no_22, low) =
-      promise_refused l (InputNoBool p) (Evaluates.with_23 (pass_20 l gates.fits, (gates.keeps, (no_22, tt))) low)
-  promise_inputs _ h = absurd h
+  abbrev w : ℕ
+  w = length run.sorts.now
 
-  -- there are at most 3,000, and each makes a wire or an output
-  pub few_gates : length l.circuit / 20 ≤ 3000
-  few_gates = gates_at_most l.circuit gates.fits
+  -- there are at most 3,000 gates, and each makes a wire or an output
+  pub few_gates : gate_count (words run.circuit.now) ≤ 3000
+  few_gates = gates_at_most run.circuit.now allowed.fits
 
-  wires_are : w ≡ (wires (gs l)).count
-  wires_are = gates.all_wires ∙ gates.noted.count
+  wires_are : w ≡ (wires made).count
+  wires_are = allowed.noted.count
 
-  pub wires_or_outs : length l.circuit / 20 ≡ w + out_count (gs l)
+  pub wires_or_outs : gate_count (words run.circuit.now) ≡ w + out_count made
   unfolding failing21 gates_of
   wires_or_outs =
-      sym (gates_in_lem l.circuit) ∙ sym (gates_all (words l.circuit) (gate_count (words l.circuit)) gates.keeps)
-      ∙ wires_and_outs (gs l) ∙ ap (λ k. k + out_count (gs l)) (sym wires_are)
+      sym (gates_all (words run.circuit.now) (gate_count (words run.circuit.now)) allowed.keeps)
+      ∙ wires_and_outs made ∙ ap (λ k. k + out_count made) (sym wires_are)
 
-  -- Once the inputs pass too.
-  module _ (fit : FitInputs l.circuit l.inputs1 l.inputs2) where
-    abbrev four : Clear (take 4 (evaluate_checks l))
-    four = (pass_20 l gates.fits, (gates.keeps, (fit.no_22, (fit.no_23, tt))))
+  abbrev four : Clear (take 4 (evaluate_checks l))
+  four = (pass_20 l allowed.fits, (allowed.keeps, (allowed.inputs.no_22, (allowed.inputs.no_23, tt))))
 
-    pub promise_24 : length l.tape / 4 < w → Refuses l TapeShort
-    promise_24 short = promise_refused l TapeShort (Evaluates.with_24 four (refuse_24 l (omega (arith, wires_are))))
+  pub promise_24 : length run.tape.now / 4 < w → Refuses l TapeShort
+  promise_24 short = promise_refused l TapeShort (Evaluates.with_24 four (refuse_24 l (omega (arith, wires_are))))
 
-    -- Once the tape is long enough.
-    module _ (long : w ≤ length l.tape / 4) where
-      abbrev five : Clear (take 5 (evaluate_checks l))
-      five = (four.0, (four.1.0, (four.1.1.0, (four.1.1.1.0, (pass_24 l (omega (arith, wires_are)), tt)))))
+  -- Once the tape is long enough.
+  module _ (long : w ≤ length run.tape.now / 4) where
+    abbrev five : Clear (take 5 (evaluate_checks l))
+    five = (four.0, (four.1.0, (four.1.1.0, (four.1.1.1.0, (pass_24 l (omega (arith, wires_are)), tt)))))
 
-      -- the code's test of the memories is the check's
-      abbrev enough : Bool
-      enough = leb w (length l.shares1 / 4)
-          && (leb w (length l.shares2 / 4) && leb (length l.circuit / 20 - w) (length l.outputs / 4))
+    -- the code's test of the memories is the check's
+    pub enough_is : {n : ℕ} → n ≡ gate_count (words run.circuit.now)
+        → (leb w (length lent.one / 4) && (leb w (length lent.two / 4) && leb (n - w) (length lent.outs / 4))) ≡ room l
+    enough_is {n} is =
+        let rest : n - w ≡ out_count made = omega (arith, wires_or_outs) in
+        rw (rest, wires_are)
 
-      enough_is : enough ≡ room l
-      enough_is =
-          let rest : length l.circuit / 20 - w ≡ out_count (gs l) = omega (arith, wires_or_outs) in
-          rw (rest, wires_are)
+    pub promise_25 : room l ≡ false → Refuses l MemoryShort
+    promise_25 e = promise_refused l MemoryShort (Evaluates.with_25 five (refuse_25 l e))
 
-      pub promise_25 : enough ≡ false → Refuses l MemoryShort
-      promise_25 e = promise_refused l MemoryShort (Evaluates.with_25 five (refuse_25 l (sym enough_is ∙ e)))
+    -- with memory enough the run may begin,
+    pub ready_to_run : room l ≡ true → Ready run lent
+    ready_to_run e =
+        let (one, two, outs) = passed_25 made lent.one lent.two lent.outs (pass_25 l e) in
+        record {
+          keeps = allowed.keeps;
+          few = few_gates;
+          noted = allowed.noted;
+          tape_long = omega (arith, wires_are);
+          one_long = omega (arith, words-length lent.one);
+          two_long = omega (arith, words-length lent.two);
+          outs_long = omega (arith, words-length lent.outs);
+        }
 
-      -- with memory enough the run may begin,
-      pub ready_to_run : enough ≡ true → {run : Run} → Reads run l sorts → Ready run (lent_contents l)
-      ready_to_run e reads =
-          let (one, two, outs) = passed_25 (gs l) l.shares1 l.shares2 l.outputs (pass_25 l (sym enough_is ∙ e)) in
-          record {
-            keeps = rw reads.circuit_is gates.keeps;
-            few = rw reads.circuit_is (omega (arith, gates_in_lem l.circuit, few_gates));
-            noted = rw (reads.circuit_is, reads.sorts_are) gates.noted;
-            tape_long = rw (reads.circuit_is, reads.tape_is) (omega (arith, wires_are));
-            one_long = rw reads.circuit_is (omega (arith, words-length l.shares1));
-            two_long = rw reads.circuit_is (omega (arith, words-length l.shares2));
-            outs_long = rw reads.circuit_is (omega (arith, words-length l.outputs));
-          }
-
-      -- and its end is the promise
-      pub promise_accepted : enough ≡ true → {run : Run} → Reads run l sorts → {now : Contents} → Done run (lent_contents l) now
-          → {one two outs : List ℕ} → one ≡ now.one → two ≡ now.two → outs ≡ now.outs
-          → Promise l (answered (Ok (record { wires = w; outputs = length l.circuit / 20 - w }))) one two outs
-      unfolding evaluate_answer leaves_one leaves_two leaves_outs
-      promise_accepted e reads done one_is two_is outs_are =
-          let given = inputs (words l.inputs1) (words l.inputs2) in
-          let outs = (shared given (words l.tape) (gs l)).outs in
-          let six : Clear (evaluate_checks l) = (five.0, (five.1.0, (five.1.1.0, (five.1.1.1.0, (five.1.1.1.1.0, (pass_25 l (sym enough_is ∙ e), tt)))))) in
-          let is : evaluate l ≡ accepted (evaluation (gs l) given (words l.tape)) = (evaluates l _).0 (Evaluates.all_hold six) in
-          let rest : length l.circuit / 20 - w ≡ length (reverse outs) =
-          omega (arith, wires_or_outs, length-reverse outs, outs_of_shares given (words l.tape) (gs l)) in
-          record {
-            answer_is = rw (is, rest, wires_are);
-            one_is = rw (is, one_is, done.one_is, reads.circuit_is, reads.one_is, reads.two_is, reads.tape_is);
-            two_is = rw (is, two_is, done.two_is, reads.circuit_is, reads.one_is, reads.two_is, reads.tape_is);
-            outs_are = rw (is, outs_are, done.outs_are, reads.circuit_is, reads.one_is, reads.two_is, reads.tape_is);
-          }
+    -- and its end is the promise
+    pub promise_accepted : room l ≡ true → {now : Contents} → Done run lent now
+        → Promise l (answered (Ok (record { wires = w; outputs = gate_count (words run.circuit.now) - w }))) now.one now.two now.outs
+    unfolding evaluate_answer leaves_one leaves_two leaves_outs
+    promise_accepted e done =
+        let given = inputs (words run.inputs.one.now) (words run.inputs.two.now) in
+        let outs = (shared given (words run.tape.now) made).outs in
+        let six : Clear (evaluate_checks l) = (five.0, (five.1.0, (five.1.1.0, (five.1.1.1.0, (five.1.1.1.1.0, (pass_25 l e, tt)))))) in
+        let is : evaluate l ≡ accepted (evaluation made given (words run.tape.now)) = (evaluates l _).0 (Evaluates.all_hold six) in
+        let rest : gate_count (words run.circuit.now) - w ≡ length (reverse outs) =
+        omega (arith, wires_or_outs, length-reverse outs, outs_of_shares given (words run.tape.now) made) in
+        record {
+          answer_is = rw (is, rest, wires_are);
+          one_is = rw (is, done.one_is);
+          two_is = rw (is, done.two_is);
+          outs_are = rw (is, done.outs_are);
+        }

@@ -26,8 +26,7 @@ use Rattle.circuit.specs.declared.sorts.Sort as code
 use Rattle.circuit.specs.Sorts.{meant_sort}
 use Rattle.circuit.specs.Noted.{WiresNoted}
 use Rattle.circuit.proofs.SortLaws.{sort_meant}
-use Rattle.evaluate.specs.Held.{Contents, with_shares, with_output, sort_in, joined_in, Held}
-use Rattle.evaluate.specs.declared.desks.Counts.{Counts}
+use Rattle.evaluate.specs.Held.{Contents, with_shares, with_output, Fresh, sort_in, joined_in, Held}
 
 -- Words put into a memory and read back.
 
@@ -67,23 +66,19 @@ module _ (given : Given) (tape : List ℕ) where
   unfolding shared
   shared_step g gs e = ap (λ o. dealt o (sort_made (wires gs).sort g) (gives g gs) tape (shared given tape gs)) e
 
-  -- a new wire is one share more for desk one,
-  one_made : (g : Gate) (gs : List Gate) {new : ℕ} → T (keeps_rules gs g) → makes g ≡ some new
-      → shares_one given tape (g ∷ gs) ≡ shares_one given tape gs ++ share_one (sort_made (wires gs).sort g) (taken tape (wires gs).count) ∷ []
-  unfolding shares_one dealt
-  one_made g gs {new} ok e =
-      rw (count-made g gs e, shared_step g gs e)
-      (listed-but (wires gs).count new (λ k. share_one (sort_made (wires gs).sort g) (taken tape k)) (shared given tape gs).one (new_next g gs ok e))
-
-  -- and for desk two,
-  two_made : (g : Gate) (gs : List Gate) {new : ℕ} → T (keeps_rules gs g) → makes g ≡ some new
-      → shares_two given tape (g ∷ gs)
-      ≡ shares_two given tape gs ++ share_two (sort_made (wires gs).sort g) (gives g gs) (taken tape (wires gs).count) ∷ []
-  unfolding shares_two dealt
-  two_made g gs {new} ok e =
-      rw (count-made g gs e, shared_step g gs e)
-      (listed-but (wires gs).count new (λ k. share_two (sort_made (wires gs).sort g) (gives g gs) (taken tape k)) (shared given tape gs).two
-      (new_next g gs ok e))
+  -- a new wire is one share more for either desk,
+  shares_made : (g : Gate) (gs : List Gate) {new : ℕ} → T (keeps_rules gs g) → makes g ≡ some new
+      → (shares_one given tape (g ∷ gs) ≡ shares_one given tape gs ++ share_one (sort_made (wires gs).sort g) (taken tape (wires gs).count) ∷ [])
+      × (shares_two given tape (g ∷ gs)
+      ≡ shares_two given tape gs ++ share_two (sort_made (wires gs).sort g) (gives g gs) (taken tape (wires gs).count) ∷ [])
+  unfolding shares_one shares_two dealt
+  shares_made g gs {new} ok e =
+      let next = new_next g gs ok e in
+      let s = sort_made (wires gs).sort g in
+      rw (count-made g gs e, shared_step g gs e) (
+        listed-but (wires gs).count new (λ k. share_one s (taken tape k)) (shared given tape gs).one next,
+        listed-but (wires gs).count new (λ k. share_two s (gives g gs) (taken tape k)) (shared given tape gs).two next,
+      )
 
   -- and no output
   shared_outs_made : (g : Gate) (gs : List Gate) {new : ℕ} → makes g ≡ some new → (shared given tape (g ∷ gs)).outs ≡ (shared given tape gs).outs
@@ -91,13 +86,10 @@ module _ (given : Given) (tape : List ℕ) where
   shared_outs_made g gs e = rw (shared_step g gs e)
 
   -- an out leaves the shares,
-  one_out : (g : Gate) (gs : List Gate) → makes g ≡ none → shares_one given tape (g ∷ gs) ≡ shares_one given tape gs
-  unfolding shares_one dealt
-  one_out g gs e = rw (count_out g gs e, shared_step g gs e)
-
-  two_out : (g : Gate) (gs : List Gate) → makes g ≡ none → shares_two given tape (g ∷ gs) ≡ shares_two given tape gs
-  unfolding shares_two dealt
-  two_out g gs e = rw (count_out g gs e, shared_step g gs e)
+  shares_out : (g : Gate) (gs : List Gate) → makes g ≡ none
+      → (shares_one given tape (g ∷ gs) ≡ shares_one given tape gs) × (shares_two given tape (g ∷ gs) ≡ shares_two given tape gs)
+  unfolding shares_one shares_two dealt
+  shares_out g gs e = rw (count_out g gs e, shared_step g gs e) (refl, refl)
 
   -- and is one output more
   shared_outs_out : (g : Gate) (gs : List Gate) → makes g ≡ none
@@ -120,9 +112,9 @@ sorts_noted {gs} {sorts} noted k below =
 -- What is held.
 
 -- before the first gate the memories are as they were lent
-pub held_none : {given : Given} {tape : List ℕ} {lent : Contents} {so_far : Counts} → so_far.wires ≡ 0 → so_far.outs ≡ 0 → Held given tape [] lent lent so_far
+pub held_none : {given : Given} {tape : List ℕ} {lent : Contents} → Fresh lent → Held given tape [] lent lent
 unfolding wires out_count shares_one shares_two shared listed
-held_none {lent} no_wires no_outs =
+held_none {lent} (no_wires, no_outs) =
     record {
       wires_so_far = no_wires;
       outs_so_far = no_outs;
@@ -136,58 +128,58 @@ held_none {lent} no_wires no_outs =
       outs_long = refl;
     }
 
-module _ {given : Given} {tape : List ℕ} {gs : List Gate} {lent now : Contents} {so_far : Counts} where
+module _ {given : Given} {tape : List ℕ} {gs : List Gate} {lent now : Contents} where
   -- after a gate that makes a wire, with its two shares put at the next place
-  pub held_wire : (g : Gate) {new : ℕ} → T (keeps_rules gs g) → makes g ≡ some new → Held given tape gs lent now so_far
-      → (v : ℕ) → v < 2 ^ 32 → v ≡ gives given tape g gs → taken tape so_far.wires < 2 ^ 32
-      → 4 * so_far.wires + 4 ≤ length now.one → 4 * so_far.wires + 4 ≤ length now.two
+  pub held_wire : (g : Gate) {new : ℕ} → T (keeps_rules gs g) → makes g ≡ some new → Held given tape gs lent now
+      → (v : ℕ) → v < 2 ^ 32 → v ≡ gives given tape g gs → taken tape now.so_far.wires < 2 ^ 32
+      → 4 * now.so_far.wires + 4 ≤ length now.one → 4 * now.so_far.wires + 4 ≤ length now.two
       → Held given tape (g ∷ gs) lent
-      (with_shares now so_far.wires (sort_made (wires gs).sort g) v (taken tape so_far.wires))
-      (record { wires = so_far.wires + 1; outs = so_far.outs })
+      (with_shares now (sort_made (wires gs).sort g) v (taken tape now.so_far.wires))
   held_wire g ok e held v word is tape-word room-one room-two =
       let s : Sort = sort_made (wires gs).sort g in
-      let t : ℕ = taken tape so_far.wires in
+      let t : ℕ = taken tape now.so_far.wires in
       let xs : List ℕ = shares_one given tape gs in
       let ys : List ℕ = shares_two given tape gs in
-      let ones : shares_one given tape (g ∷ gs) ≡ xs ++ share_one s t ∷ [] = rw held.wires_so_far (one_made given tape g gs ok e) in
-      let twos : shares_two given tape (g ∷ gs) ≡ ys ++ share_two s v t ∷ [] = rw (held.wires_so_far, is) (two_made given tape g gs ok e) in
-      let here-one : so_far.wires ≡ length xs = held.wires_so_far ∙ sym (shares_one_length given tape gs) in
-      let here-two : so_far.wires ≡ length ys = held.wires_so_far ∙ sym (shares_two_length given tape gs) in
+      let made = shares_made given tape g gs ok e in
+      let ones : shares_one given tape (g ∷ gs) ≡ xs ++ share_one s t ∷ [] = rw held.wires_so_far made.0 in
+      let twos : shares_two given tape (g ∷ gs) ≡ ys ++ share_two s v t ∷ [] = rw (held.wires_so_far, is) made.1 in
+      let here-one : now.so_far.wires ≡ length xs = held.wires_so_far ∙ sym (shares_one_length given tape gs) in
+      let here-two : now.so_far.wires ≡ length ys = held.wires_so_far ∙ sym (shares_two_length given tape gs) in
       record {
         wires_so_far = omega (arith, count-made g gs e);
         outs_so_far = held.outs_so_far ∙ sym (outs_made g gs e);
-        one_is = rw ones (put_next xs lent.one now.one so_far.wires (share_one s t) held.one_is here-one (omega (arith, held.one_long)));
-        two_is = rw twos (put_next ys lent.two now.two so_far.wires (share_two s v t) held.two_is here-two (omega (arith, held.two_long)));
+        one_is = rw ones (put_next xs lent.one now.one now.so_far.wires (share_one s t) held.one_is here-one (omega (arith, held.one_long)));
+        two_is = rw twos (put_next ys lent.two now.two now.so_far.wires (share_two s v t) held.two_is here-two (omega (arith, held.two_long)));
         outs_are = rw (shared_outs_made given tape g gs e) held.outs_are;
         one_words = rw ones (words_both xs (share_one s t ∷ []) held.one_words (share_one_word s t tape-word, tt));
         two_words = rw twos (words_both ys (share_two s v t ∷ []) held.two_words (share_two_word s v t word tape-word, tt));
-        one_long = put-length now.one so_far.wires (share_one s t) ∙ held.one_long;
-        two_long = put-length now.two so_far.wires (share_two s v t) ∙ held.two_long;
+        one_long = put-length now.one now.so_far.wires (share_one s t) ∙ held.one_long;
+        two_long = put-length now.two now.so_far.wires (share_two s v t) ∙ held.two_long;
         outs_long = held.outs_long;
       }
 
   -- after an out, with its value put at the next place of the outputs
-  pub held_out : (g : Gate) → makes g ≡ none → Held given tape gs lent now so_far → (v : ℕ) → v ≡ gives given tape g gs
-      → 4 * so_far.outs + 4 ≤ length now.outs
-      → Held given tape (g ∷ gs) lent (with_output now so_far.outs v) (record { wires = so_far.wires; outs = so_far.outs + 1 })
+  pub held_out : (g : Gate) → makes g ≡ none → Held given tape gs lent now → (v : ℕ) → v ≡ gives given tape g gs
+      → 4 * now.so_far.outputs + 4 ≤ length now.outs
+      → Held given tape (g ∷ gs) lent (with_output now v)
   held_out g e held v is room =
       record {
         wires_so_far = held.wires_so_far ∙ sym (count_out g gs e);
         outs_so_far = omega (arith, outs_out g gs e);
-        one_is = rw (one_out given tape g gs e) held.one_is;
-        two_is = rw (two_out given tape g gs e) held.two_is;
+        one_is = rw (shares_out given tape g gs e).0 held.one_is;
+        two_is = rw (shares_out given tape g gs e).1 held.two_is;
         outs_are = rw (shared_outs_out given tape g gs e, is)
-            (put_next (reverse (shared given tape gs).outs) lent.outs now.outs so_far.outs (gives given tape g gs) held.outs_are
+            (put_next (reverse (shared given tape gs).outs) lent.outs now.outs now.so_far.outputs (gives given tape g gs) held.outs_are
             (held.outs_so_far ∙ sym (outs_length given tape gs)) (omega (arith, held.outs_long)));
-        one_words = rw (one_out given tape g gs e) held.one_words;
-        two_words = rw (two_out given tape g gs e) held.two_words;
+        one_words = rw (shares_out given tape g gs e).0 held.one_words;
+        two_words = rw (shares_out given tape g gs e).1 held.two_words;
         one_long = held.one_long;
         two_long = held.two_long;
-        outs_long = put-length now.outs so_far.outs v ∙ held.outs_long;
+        outs_long = put-length now.outs now.so_far.outputs v ∙ held.outs_long;
       }
 
   -- the value of a wire that stands is joined of the memories
-  held_joined : Held given tape gs lent now so_far → (sorts : List code.Sort) → SortsOf gs sorts → (k : ℕ) → k < so_far.wires
+  held_joined : Held given tape gs lent now → (sorts : List code.Sort) → SortsOf gs sorts → (k : ℕ) → k < now.so_far.wires
       → joined_in sorts now k ≡ joined_at (wires gs).sort (shared given tape gs) k
   unfolding shares_one shares_two
   held_joined held sorts all k below =
@@ -201,7 +193,7 @@ module _ {given : Given} {tape : List ℕ} {gs : List Gate} {lent now : Contents
       )
 
   -- so the next gate has its value
-  pub held_value : Held given tape gs lent now so_far → (sorts : List code.Sort) → SortsOf gs sorts → (g : Gate) → T (keeps_rules gs g)
+  pub held_value : Held given tape gs lent now → (sorts : List code.Sort) → SortsOf gs sorts → (g : Gate) → T (keeps_rules gs g)
       → value_of given (joined_in sorts now) g ≡ gives given tape g gs
   held_value held sorts all g ok =
       made-same given (wires gs) (joined_in sorts now) (joined_at (wires gs).sort (shared given tape gs))

@@ -17,15 +17,14 @@ use Rattle.rules.specs.Shares.{taken}
 use Rattle.rules.specs.Answers.{out_count, gates_of, failing21}
 use Rattle.rules.proofs.Basics.{none≢some}
 use Rattle.rules.proofs.Kept.{kept_of}
-use Rattle.rules.proofs.Earlier.{gate_kept, gates_step, count-made, outs_out, count_earlier, outs_earlier, sort_earlier, sort_new, wires-below}
+use Rattle.rules.proofs.Earlier.{gate_kept, gates_step, count-made, outs_out, count_earlier, outs_earlier, sort_earlier, sort_new}
 use Rattle.circuit.specs.declared.sorts.Sort.{Sort}
 use Rattle.circuit.specs.declared.gates.Gate as code
 use Rattle.circuit.specs.declared.gates.Gate.TheVariants.{Both, Mux, Constant, Convert, Input, Out}
 use Rattle.circuit.specs.Gates.{meant, meant_gate, makes_wire}
 use Rattle.circuit.proofs.GateLaws.{makes_some, makes_none}
-use Rattle.evaluate.specs.declared.desks.Counts.{Counts}
 use Rattle.evaluate.specs.declared.desks.Run.{Run}
-use Rattle.evaluate.specs.Held.{Contents, with_shares, with_output, sort_in, joined_in, given_in, Held, WireIn, WiresIn, Ready, Before, Turned, Done}
+use Rattle.evaluate.specs.Held.{Contents, with_shares, with_output, sort_in, joined_in, given_in, Held, WireIn, WiresIn, Fresh, Ready, Before, Turned, Done}
 use Rattle.evaluate.proofs.HeldLaws.{SortsOf, sorts_noted, held_none, held_wire, held_out, held_value}
 
 -- the wires that a gate reads have places, where all that were made have
@@ -51,12 +50,11 @@ meant_some e is = rw e at is
 
 -- a new wire has its places, and its tape word
 pub record NewWireIn (run : Run) (now : Contents) (w : ℕ) : Type 0 where
-  pub few : w < 3000
   pub places : WireIn run.sorts.now now w
   pub tape_word : 4 * w + 4 ≤ length run.tape.now
 
 -- Gate i, the next one.
-module _ {run : Run} {now : Contents} {i : ℕ} {so_far : Counts} (before : Before run now i so_far) where
+module _ {run : Run} {now : Contents} {i : ℕ} (before : Before run now i) where
   abbrev gs : List Gate
   gs = gates_to (words run.circuit.now) i
 
@@ -111,17 +109,16 @@ module _ {run : Run} {now : Contents} {i : ℕ} {so_far : Counts} (before : Befo
       made = (makes_some gate makes_one).1
 
       -- a new wire is one more, and no more than all,
-      one_more : (wires (gates_to (words run.circuit.now) (suc i))).count ≡ suc so_far.wires
+      one_more : (wires (gates_to (words run.circuit.now) (suc i))).count ≡ suc now.so_far.wires
       one_more = ap (λ l. (wires l).count) step ∙ count-made g gs made ∙ ap suc (sym before.wires_so_far)
 
-      new_fits : so_far.wires < all
+      new_fits : now.so_far.wires < all
       unfolding gates_of
       new_fits = omega (arith, one_more, count_earlier (words run.circuit.now) (suc i) total before.within)
 
       -- so it has its places,
-      pub new_wire_in : NewWireIn run now so_far.wires
+      pub new_wire_in : NewWireIn run now now.so_far.wires
       new_wire_in = record {
-        few = omega (arith, before.wires_so_far, wires-below (words run.circuit.now) i, before.within, before.ready.few);
         places = (
           omega (arith, new_fits, before.ready.noted.count),
           (omega (arith, new_fits, before.ready.one_long), omega (arith, new_fits, before.ready.two_long)),
@@ -130,20 +127,19 @@ module _ {run : Run} {now : Contents} {i : ℕ} {so_far : Counts} (before : Befo
       }
 
       -- and its sort
-      new_sort : sort_in run.sorts.now so_far.wires ≡ sort_made (wires gs).sort g
+      new_sort : sort_in run.sorts.now now.so_far.wires ≡ sort_made (wires gs).sort g
       unfolding gates_of failing21
       new_sort =
-          sorts_noted before.ready.noted so_far.wires new_fits
-          ∙ sort_earlier (words run.circuit.now) (suc i) total before.within before.ready.keeps so_far.wires (omega (arith, one_more))
-          ∙ ap (λ l. (wires l).sort so_far.wires) step
+          sorts_noted before.ready.noted now.so_far.wires new_fits
+          ∙ sort_earlier (words run.circuit.now) (suc i) total before.within before.ready.keeps now.so_far.wires (omega (arith, one_more))
+          ∙ ap (λ l. (wires l).sort now.so_far.wires) step
           ∙ ap (λ k. (wires (g ∷ gs)).sort k) before.wires_so_far
           ∙ sort_new g gs ok made
 
       -- memories that hold the gates before it hold it too, once its shares are put
-      pub turned_wire : (v t : ℕ) → v < 2 ^ 32 → t < 2 ^ 32 → t ≡ get_or (words run.tape.now) so_far.wires 0
+      pub turned_wire : (v t : ℕ) → v < 2 ^ 32 → t < 2 ^ 32 → t ≡ get_or (words run.tape.now) now.so_far.wires 0
           → v ≡ value_of (given_in run) (joined_in run.sorts.now now) g
-          → {now' : Contents} → now' ≡ with_shares now so_far.wires (sort_in run.sorts.now so_far.wires) v t
-          → Turned run i now so_far now' (record { wires = so_far.wires + 1; outs = so_far.outs })
+          → {now' : Contents} → now' ≡ with_shares now (sort_in run.sorts.now now.so_far.wires) v t → Turned run i now now'
       unfolding taken
       turned_wire v t word tape-word t_is value now_is lent held =
           let room = new_wire_in.places.1 in
@@ -155,7 +151,7 @@ module _ {run : Run} {now : Contents} {i : ℕ} {so_far : Counts} (before : Befo
       no_wire = makes_none gate makes-no
 
       -- an output has its place
-      pub new_output_in : 4 * so_far.outs + 4 ≤ length now.outs
+      pub new_output_in : 4 * now.so_far.outputs + 4 ≤ length now.outs
       unfolding gates_of
       new_output_in =
           let more = outs_earlier (words run.circuit.now) (suc i) total before.within in
@@ -164,23 +160,22 @@ module _ {run : Run} {now : Contents} {i : ℕ} {so_far : Counts} (before : Befo
 
       -- memories that hold the gates before it hold it too, once its value is put
       pub turned_output : (v : ℕ) → v ≡ value_of (given_in run) (joined_in run.sorts.now now) g
-          → {now' : Contents} → now' ≡ with_output now so_far.outs v
-          → Turned run i now so_far now' (record { wires = so_far.wires; outs = so_far.outs + 1 })
+          → {now' : Contents} → now' ≡ with_output now v → Turned run i now now'
       turned_output v value now_is lent held =
           rw (step, now_is) (held_out g no_wire held v (value ∙ held_value held run.sorts.now sorts_so_far g ok) new_output_in)
 
 -- The run: the first i gates are held.
-pub record Running (run : Run) (lent now : Contents) (i : ℕ) (so_far : Counts) : Type 0 where
+pub record Running (run : Run) (lent now : Contents) (i : ℕ) : Type 0 where
   pub within : i ≤ gate_count (words run.circuit.now)
-  pub held : Held (given_in run) (words run.tape.now) (gates_to (words run.circuit.now) i) lent now so_far
+  pub held : Held (given_in run) (words run.tape.now) (gates_to (words run.circuit.now) i) lent now
 
-pub running_first : {run : Run} {lent : Contents} {so_far : Counts} → so_far.wires ≡ 0 → so_far.outs ≡ 0 → Running run lent lent 0 so_far
+pub running_first : {run : Run} {lent : Contents} → Fresh lent → Running run lent lent 0
 unfolding gates_to
-running_first no_wires no_outs = record { within = omega arith; held = held_none no_wires no_outs }
+running_first fresh = record { within = omega arith; held = held_none fresh }
 
-module _ {run : Run} {lent now : Contents} {i : ℕ} {so_far : Counts} (ready : Ready run lent) (running : Running run lent now i so_far) where
+module _ {run : Run} {lent now : Contents} {i : ℕ} (ready : Ready run lent) (running : Running run lent now i) where
   -- the next gate may be run
-  pub running_before : i < gate_count (words run.circuit.now) → Before run now i so_far
+  pub running_before : i < gate_count (words run.circuit.now) → Before run now i
   running_before more =
       let held = running.held in
       record {
@@ -199,8 +194,7 @@ module _ {run : Run} {lent now : Contents} {i : ℕ} {so_far : Counts} (ready : 
       }
 
   -- and is held then
-  pub running_next : i < gate_count (words run.circuit.now) → {now' : Contents} {so_far' : Counts} → Turned run i now so_far now' so_far'
-      → Running run lent now' (i + 1) so_far'
+  pub running_next : i < gate_count (words run.circuit.now) → {now' : Contents} → Turned run i now now' → Running run lent now' (i + 1)
   running_next more turned = record { within = omega arith; held = rw add-one (turned lent running.held) }
 
   -- after the last all are

@@ -1,12 +1,12 @@
 -- What the lent memories hold while a circuit is evaluated, gate by gate (document 01, "Shares"; Figure 13). Only functions
 -- inside the desk cite it.
-use Rattle.std.specs.Prelude.{ℕ, suc, ◌+◌, ◌*◌, ◌≤◌, ◌<◌, ◌≡◌, List, [], reverse, length, get_or, slice_index_or}
+use Rattle.std.specs.Prelude.{ℕ, suc, T, ◌+◌, ◌*◌, ◌≤◌, ◌<◌, ◌≡◌, List, [], reverse, length, get_or, slice_index_or}
 use Rattle.words.specs.Words.{words, over, put_at, AllWords}
 use Rattle.rules.specs.Sorts as rules
-use Rattle.rules.specs.Gates.{Gate, gates_to, gate_count, wires}
+use Rattle.rules.specs.Gates.{Gate, gates_to, gate_count, wires, circuit_fits}
 use Rattle.rules.specs.Plain.{Given, inputs}
 use Rattle.rules.specs.Shares.{share_one, share_two, join, shared, shares_one, shares_two}
-use Rattle.rules.specs.Answers.{out_count, gates_of, failing21}
+use Rattle.rules.specs.Answers.{Lent, FitInputs, out_count, gates_of, failing21}
 use Rattle.circuit.specs.declared.sorts.Sort.{Sort}
 use Rattle.circuit.specs.declared.sorts.Sort.TheVariants.{Arithmetic}
 use Rattle.circuit.specs.Sorts.{meant_sort}
@@ -14,29 +14,40 @@ use Rattle.circuit.specs.Noted.{WiresNoted}
 use Rattle.circuit.specs.declared.gates.Gate as code
 use Rattle.circuit.specs.declared.gates.Gate.TheVariants.{Both, Mux, Constant, Convert, Input, Out}
 use Rattle.evaluate.specs.declared.memories.Memories.{Memories}
-use Rattle.evaluate.specs.declared.desks.Counts.{Counts}
+use Rattle.evaluate.specs.declared.memories.Counts.{Counts}
 use Rattle.evaluate.specs.declared.desks.Run.{Run}
 
--- what the three lent memories hold
+-- what the three lent memories hold, and how many wires and outputs that is so far
 pub record Contents : Type 0 where
   pub one : List ℕ
   pub two : List ℕ
   pub outs : List ℕ
+  pub so_far : Counts
 
 abbrev pub contents : Memories → Contents
-contents m = record { one = m.one.now; two = m.two.now; outs = m.outs.now }
+contents m = record { one = m.one.now; two = m.two.now; outs = m.outs.now; so_far = m.so_far }
 
--- with the two shares of a wire put at its places, by its sort, its value and its tape word
-abbrev pub with_shares : Contents → ℕ → rules.Sort → ℕ → ℕ → Contents
-with_shares now k sort v t = record {
-  one = put_at now.one k (share_one sort t);
-  two = put_at now.two k (share_two sort v t);
+-- with the two shares of one wire more put at its places, by its sort, its value and its tape word
+abbrev pub with_shares : Contents → rules.Sort → ℕ → ℕ → Contents
+with_shares now sort v t = record {
+  one = put_at now.one now.so_far.wires (share_one sort t);
+  two = put_at now.two now.so_far.wires (share_two sort v t);
   outs = now.outs;
+  so_far = record { wires = now.so_far.wires + 1; outputs = now.so_far.outputs };
 }
 
--- with an output put at its place
-abbrev pub with_output : Contents → ℕ → ℕ → Contents
-with_output now m v = record { one = now.one; two = now.two; outs = put_at now.outs m v }
+-- with one output more put at its place
+abbrev pub with_output : Contents → ℕ → Contents
+with_output now v = record {
+  one = now.one;
+  two = now.two;
+  outs = put_at now.outs now.so_far.outputs v;
+  so_far = record { wires = now.so_far.wires; outputs = now.so_far.outputs + 1 };
+}
+
+-- before the first of both
+abbrev pub Fresh : Contents → Type 0
+Fresh now = (now.so_far.wires ≡ 0) × (now.so_far.outputs ≡ 0)
 
 -- they are the same memories, whatever was written
 pub record SameMemories (old new : Memories) : Type 0 where
@@ -57,9 +68,9 @@ abbrev pub given_in : Run → Given
 given_in run = inputs (words run.inputs.one.now) (words run.inputs.two.now)
 
 -- after the gates gs, with the tape's words, over what was lent: a share of each wire, and each output; and so many of both
-pub record Held (given : Given) (tape_words : List ℕ) (gs : List Gate) (lent now : Contents) (so_far : Counts) : Type 0 where
-  pub wires_so_far : so_far.wires ≡ (wires gs).count
-  pub outs_so_far : so_far.outs ≡ out_count gs
+pub record Held (given : Given) (tape_words : List ℕ) (gs : List Gate) (lent now : Contents) : Type 0 where
+  pub wires_so_far : now.so_far.wires ≡ (wires gs).count
+  pub outs_so_far : now.so_far.outputs ≡ out_count gs
   pub one_is : now.one ≡ over (shares_one given tape_words gs) lent.one
   pub two_is : now.two ≡ over (shares_two given tape_words gs) lent.two
   pub outs_are : now.outs ≡ over (reverse (shared given tape_words gs).outs) lent.outs
@@ -86,6 +97,25 @@ WiresIn sorts now (Convert w s new) = WireIn sorts now w.0
 WiresIn sorts now (Input r new) = Unit {0}
 WiresIn sorts now (Out w) = WireIn sorts now w.0
 
+-- what a run was lent, with memories that hold this
+abbrev pub lent_to : Run → Contents → Lent
+lent_to run lent = record {
+  circuit = run.circuit.now;
+  inputs1 = run.inputs.one.now;
+  inputs2 = run.inputs.two.now;
+  tape = run.tape.now;
+  shares1 = lent.one;
+  shares2 = lent.two;
+  outputs = lent.outs;
+}
+
+-- a run passes checks 20 to 23, and its wires' sorts are noted
+pub record Allowed (run : Run) : Type 0 where
+  pub fits : T (circuit_fits run.circuit.now)
+  pub keeps : failing21 (words run.circuit.now) ≡ []
+  pub noted : WiresNoted (gates_of run.circuit.now) (record { items = run.sorts.now })
+  pub inputs : FitInputs run.circuit.now run.inputs.one.now run.inputs.two.now
+
 -- a run's circuit passes check 21, its wires' sorts are noted, and tape and memory are enough
 pub record Ready (run : Run) (now : Contents) : Type 0 where
   pub keeps : failing21 (words run.circuit.now) ≡ []
@@ -97,17 +127,17 @@ pub record Ready (run : Run) (now : Contents) : Type 0 where
   pub outs_long : 4 * out_count (gates_of run.circuit.now) ≤ length now.outs
 
 -- and gate i is the next, after so many wires and outputs
-pub record Before (run : Run) (now : Contents) (i : ℕ) (so_far : Counts) : Type 0 where
+pub record Before (run : Run) (now : Contents) (i : ℕ) : Type 0 where
   pub ready : Ready run now
   pub within : i < gate_count (words run.circuit.now)
-  pub wires_so_far : so_far.wires ≡ (wires (gates_to (words run.circuit.now) i)).count
-  pub outs_so_far : so_far.outs ≡ out_count (gates_to (words run.circuit.now) i)
+  pub wires_so_far : now.so_far.wires ≡ (wires (gates_to (words run.circuit.now) i)).count
+  pub outs_so_far : now.so_far.outputs ≡ out_count (gates_to (words run.circuit.now) i)
 
 -- gate i takes memories that hold the gates before it to memories that hold it too
-abbrev pub Turned : Run → ℕ → Contents → Counts → Contents → Counts → Type 0
-Turned run i now so_far now' so_far' =
-    (lent : Contents) → Held (given_in run) (words run.tape.now) (gates_to (words run.circuit.now) i) lent now so_far
-    → Held (given_in run) (words run.tape.now) (gates_to (words run.circuit.now) (suc i)) lent now' so_far'
+abbrev pub Turned : Run → ℕ → Contents → Contents → Type 0
+Turned run i now now' =
+    (lent : Contents) → Held (given_in run) (words run.tape.now) (gates_to (words run.circuit.now) i) lent now
+    → Held (given_in run) (words run.tape.now) (gates_to (words run.circuit.now) (suc i)) lent now'
 
 -- at the end they hold all gates, over what was lent
 pub record Done (run : Run) (lent now : Contents) : Type 0 where

@@ -10,15 +10,20 @@ use Rattle.rules.specs.Answers.{failing22, failing23}
 use Rattle.rules.specs.Refusals.{Lowest}
 use Rattle.circuit.specs.Sorts.{meant_sort}
 use Rattle.circuit.specs.declared.gates.Read.{Read}
+use Rattle.evaluate.specs.declared.inputs.Inputs.{Inputs}
 use Rattle.evaluate.specs.declared.Refusal.{Refusal}
 use Rattle.evaluate.specs.declared.Refusal.TheVariants.{InputMissing, InputNoBool}
 
--- check 22, that an input read is there, and check 23, that it fits the sort it is read at: a bool is 0 or 1
-abbrev pub there : List ℕ → List ℕ → ℕ → ℕ → rules.Sort → Bool
-there one two desk number sort = ltb number (length (of_desk one two desk))
+-- the words of a desk's inputs
+abbrev pub desk_words : Inputs → ℕ → List ℕ
+desk_words from desk = of_desk (words from.one.now) (words from.two.now) desk
 
-abbrev pub fits : List ℕ → List ℕ → ℕ → ℕ → rules.Sort → Bool
-fits one two desk number sort = rules.fits_sort sort (inputs one two desk number)
+-- check 22, that an input read is there, and check 23, that it fits the sort it is read at: a bool is 0 or 1
+abbrev pub input_there : Inputs → ℕ → ℕ → rules.Sort → Bool
+input_there from desk number sort = ltb number (length (desk_words from desk))
+
+abbrev pub input_fits : Inputs → ℕ → ℕ → rules.Sort → Bool
+input_fits from desk number sort = rules.fits_sort sort (inputs (words from.one.now) (words from.two.now) desk number)
 
 -- a closure, by what its calls answer, is a test of an input: its desk, its number and the sort at which it is read
 abbrev pub Tests : (Read → Bool → Type 0) → (ℕ → ℕ → rules.Sort → Bool) → Type 0

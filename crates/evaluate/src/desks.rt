@@ -6,18 +6,12 @@ ghost use Rattle.circuit.specs.Gates.{meant};
 
 use crate::inputs::Inputs;
 use crate::memories::Memories;
-use circuit::gates::{Gate, Wire, gate_at};
+use circuit::gates::{Gate, Wire, gate_at, gate_count};
 use circuit::sorts::Sort;
 
-// How many wires and outputs there are so far.
-#[derive(Clone, Copy, Default)]
-pub struct Counts {
-    pub wires: usize,
-    pub outs: usize,
-}
-
 // A run over lent memories, by what it reads: a circuit, its wires' sorts, both desks' inputs and a tape.
-#[derive(Clone, Copy)]
+// (The memories stand apart: contracts then speak of `self.now`, which stays, while they change.)
+#[derive(Clone, Copy, Debug)]
 pub struct Run<'a> {
     pub circuit: &'a [u8],
     pub sorts: &'a [Sort],
@@ -26,7 +20,7 @@ pub struct Run<'a> {
 }
 
 impl Run<'_> {
-    ghost use Rattle.evaluate.specs.Held.{SameMemories, contents, sort_in, joined_in, given_in, WireIn, WiresIn, Ready, Before, Turned, Done};
+    ghost use Rattle.evaluate.specs.Held.{SameMemories, contents, sort_in, joined_in, given_in, WireIn, WiresIn, Fresh, Ready, Before, Turned, Done};
 
     // The sort of a wire.
     fn sort(&self, wire: Wire) -> Sort
@@ -80,39 +74,30 @@ impl Run<'_> {
     }
 
     // Gate i is run.
-    fn turn(&self, memories: &mut Memories, i: usize, so_far: Counts) -> Counts
-        requires { Before self.now (contents memories.old) i so_far }
+    fn turn(&self, memories: &mut Memories, i: usize)
+        requires { Before self.now (contents memories.old) i }
         ensures same { SameMemories memories.old memories.new }
-        ensures turned { Turned self.now i (contents memories.old) so_far (contents memories.new) result }
+        ensures turned { Turned self.now i (contents memories.old) (contents memories.new) }
     {
-        let Counts { wires, outs } = so_far;
         let gate = gate_at(self.circuit, i).unwrap();
         let v = self.value(memories, gate);
         if gate.makes_wire() {
-            let new = Wire(wires as u32);
-            memories.deal(self.sort(new), new, v, words::get(self.tape, wires));
-            Counts {
-                wires: wires + 1,
-                outs,
-            }
+            let new = memories.so_far.wires;
+            memories.deal(self.sorts[new], v, words::get(self.tape, new));
         } else {
-            memories.put_out(outs, v);
-            Counts {
-                wires,
-                outs: outs + 1,
-            }
+            memories.put_out(v);
         }
     }
 
-    // All gates are run.
+    // All gates are run, over memories that hold nothing yet.
     pub fn all_gates(&self, memories: &mut Memories)
-        requires { Ready self.now (contents memories.old) }
+        requires ready { Ready self.now (contents memories.old) }
+        requires fresh { Fresh (contents memories.old) }
         ensures same { SameMemories memories.old memories.new }
         ensures done { Done self.now (contents memories.old) (contents memories.new) }
     {
-        let mut so_far = Counts::default();
-        for i in 0..self.circuit.len() / 20 {
-            so_far = self.turn(memories, i, so_far);
+        for i in 0..gate_count(self.circuit) {
+            self.turn(memories, i);
         }
     }
 }

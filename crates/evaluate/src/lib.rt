@@ -10,13 +10,15 @@ ghost use Rattle.rules.specs.Gates.{circuit_fits};
 ghost use Rattle.rules.specs.Answers.{FitInputs};
 ghost use Rattle.evaluate.specs.declared.Refusal.TheVariants.{GateBreaksRules};
 ghost use Rattle.evaluate.specs.InputChecks.{InputsRefused};
+ghost use Rattle.evaluate.specs.Held.{SameMemories, Fresh, Allowed, contents, lent_to};
 ghost use Rattle.evaluate.specs.Promise.{answered, lent_with, Promise};
 
 use crate::desks::Run;
 use crate::inputs::{Inputs, lowest_failing};
-use crate::memories::Memories;
+use crate::memories::{Counts, Memories};
 use arrayvec::ArrayVec;
 use circuit::checks::{BrokenGate, check_gates, fits};
+use circuit::gates::gate_count;
 
 // How many wires and outputs an accepted evaluation wrote.
 #[derive(Clone, Copy, Debug, PartialEq, Eq)]
@@ -51,16 +53,40 @@ fn check_inputs(circuit: &[u8], inputs: &Inputs) -> Result<(), Refusal>
     ensures err { IfErr result (InputsRefused circuit.now inputs.now.one.now inputs.now.two.now) }
 {
     if let Some(gate) = lowest_failing(circuit, |read| inputs.has(read)) {
-        return Err(Refusal::InputMissing { gate });
+        return Err(Refusal::InputMissing { gate: gate as u32 });
     }
     if let Some(gate) = lowest_failing(circuit, |read| read.sort.holds(inputs.word(read))) {
-        return Err(Refusal::InputNoBool { gate });
+        return Err(Refusal::InputNoBool { gate: gate as u32 });
     }
     Ok(())
 }
 
+// Checks 24 and 25, of a run that the checks before allow; then all gates are run.
+fn run_with_room(run: &Run, memories: &mut Memories) -> Result<Accepted, Refusal>
+    requires allowed { Allowed run.now }
+    requires fresh { Fresh (contents memories.old) }
+    ensures same { SameMemories memories.old memories.new }
+    ensures promise { Promise (lent_to run.now (contents memories.old)) (answered result)
+        memories.new.one.now memories.new.two.now memories.new.outs.now }
+{
+    let wires = run.sorts.len();
+    // Each gate makes a wire or is an out.
+    let outputs = gate_count(run.circuit) - wires;
+    if run.tape.len() / 4 < wires {
+        return Err(Refusal::TapeShort);
+    }
+    if !memories.have_room(Counts { wires, outputs }) {
+        return Err(Refusal::MemoryShort);
+    }
+    run.all_gates(memories);
+    Ok(Accepted {
+        wires: wires as u32,
+        outputs: outputs as u32,
+    })
+}
+
 // The operation: any bytes get an answer, and a refusal writes nothing.
-// (What is lent comes one by one, as the C interface has it.)
+// (What is lent comes one by one, as `desk_evaluate` gets it from C; docs/PROMISES.md names these arguments.)
 pub fn evaluate(
     circuit: &[u8],
     inputs1: &[u8],
@@ -80,34 +106,22 @@ pub fn evaluate(
     }
     let mut sorts = ArrayVec::new();
     check_gates(circuit, &mut sorts)?;
-    let wires = sorts.len();
     let inputs = Inputs {
         one: inputs1,
         two: inputs2,
     };
     check_inputs(circuit, &inputs)?;
-    if tape.len() / 4 < wires {
-        return Err(Refusal::TapeShort);
-    }
-    let mut memories = Memories {
-        one: shares1,
-        two: shares2,
-        outs: outputs,
-    };
-    // Each gate makes a wire or is an out.
-    let outs = circuit.len() / 20 - wires;
-    if !memories.have_room(wires, outs) {
-        return Err(Refusal::MemoryShort);
-    }
     let run = Run {
         circuit,
         inputs,
         tape,
         sorts: sorts.as_slice(),
     };
-    run.all_gates(&mut memories);
-    Ok(Accepted {
-        wires: wires as u32,
-        outputs: outs as u32,
-    })
+    let mut memories = Memories {
+        one: shares1,
+        two: shares2,
+        outs: outputs,
+        so_far: Counts::default(),
+    };
+    run_with_room(&run, &mut memories)
 }

@@ -7,22 +7,34 @@ ghost use Rattle.circuit.specs.Sorts.{meant_sort};
 use circuit::gates::Wire;
 use circuit::sorts::Sort;
 
-#[derive(Drop)]
+// How many wires and outputs. (Places in memory, so usize; `Accepted` has the answer's words.)
+#[derive(Clone, Copy, Debug, Default, PartialEq, Eq)]
+pub struct Counts {
+    pub wires: usize,
+    pub outputs: usize,
+}
+
+// Three slices side by side, as the C interface lends them, and how many wires and outputs they hold so far.
+#[derive(Debug, Drop)]
 pub struct Memories<'a> {
     pub one: &'a mut [u8],
     pub two: &'a mut [u8],
     pub outs: &'a mut [u8],
+    pub so_far: Counts,
 }
 
+// `SameMemories` is a fact of before and after, so no invariant of the type.
 impl Memories<'_> {
     ghost use Rattle.evaluate.specs.Held.{SameMemories, HasPlaces, contents, with_shares, with_output};
 
     // So many wires and outputs have their places.
-    pub fn have_room(&self, wires: usize, outs: usize) -> bool
-        ensures { result ≡ (leb wires (length self.now.one.now / 4)
-            && (leb wires (length self.now.two.now / 4) && leb outs (length self.now.outs.now / 4))) }
+    pub fn have_room(&self, all: Counts) -> bool
+        ensures { result ≡ (leb all.wires (length self.now.one.now / 4)
+            && (leb all.wires (length self.now.two.now / 4) && leb all.outputs (length self.now.outs.now / 4))) }
     {
-        wires <= self.one.len() / 4 && wires <= self.two.len() / 4 && outs <= self.outs.len() / 4
+        all.wires <= self.one.len() / 4
+            && all.wires <= self.two.len() / 4
+            && all.outputs <= self.outs.len() / 4
     }
 
     // The value of a wire of this sort, joined of its two shares.
@@ -34,23 +46,25 @@ impl Memories<'_> {
         share::join(sort, words::get(self.one, k), words::get(self.two, k))
     }
 
-    // A new wire of value v is shared with its tape word t.
-    pub fn deal(&mut self, sort: Sort, new: Wire, v: u32, t: u32)
-        requires { HasPlaces (contents self.old) new.0 }
+    // The next wire, of value v, is shared with its tape word t.
+    pub fn deal(&mut self, sort: Sort, v: u32, t: u32)
+        requires { HasPlaces (contents self.old) self.old.so_far.wires }
         ensures same { SameMemories self.old self.new }
-        ensures dealt { contents self.new ≡ with_shares (contents self.old) new.0 (meant_sort sort) v t }
+        ensures dealt { contents self.new ≡ with_shares (contents self.old) (meant_sort sort) v t }
     {
-        let k = new.0 as usize;
+        let k = self.so_far.wires;
         words::put(self.one, k, share::share_one(sort, t));
         words::put(self.two, k, share::share_two(sort, v, t));
+        self.so_far.wires += 1;
     }
 
-    // Output m is v.
-    pub fn put_out(&mut self, m: usize, v: u32)
-        requires { 4 * m + 4 ≤ length self.old.outs.now }
+    // The next output is v.
+    pub fn put_out(&mut self, v: u32)
+        requires { 4 * self.old.so_far.outputs + 4 ≤ length self.old.outs.now }
         ensures same { SameMemories self.old self.new }
-        ensures put { contents self.new ≡ with_output (contents self.old) m v }
+        ensures put { contents self.new ≡ with_output (contents self.old) v }
     {
-        words::put(self.outs, m, v);
+        words::put(self.outs, self.so_far.outputs, v);
+        self.so_far.outputs += 1;
     }
 }

@@ -1,24 +1,27 @@
 -- `Run::all_gates` runs all gates.
-use Rattle.std.proofs.Common.{arith, rules}
-use Rattle.circuit.proofs.PassLaws.{gates_in_lem}
+use Rattle.std.proofs.Common.{◌<◌, rules}
+use Rattle.words.specs.Words.{words}
+use Rattle.rules.specs.Gates.{gate_count}
 use Rattle.evaluate.proofs.TurnLaws.{running_first, running_before, running_next, running_last}
+use Rattle.evaluate.proofs.desks.Run.all_gates.Goals.{In-loop-i}
 use Rattle.evaluate.proofs.desks.Run.all_gates.Goals as goal
 
-pub loop-i-init : goal.loop-i-init
-loop-i-init c = record { same = search rules; running = running_first c.default-so_far.ensures.0 c.default-so_far.ensures.1 }
+-- there is a gate more
+more : (c : In-loop-i) → c.loop-i.i < gate_count (words c.args.self.now.circuit.now)
+more c = rw c.gate_count-i-end.ensures at c.loop-i-test.true
 
-pub turn-so_far-requires : goal.turn-so_far-requires
-turn-so_far-requires c =
-    running_before c.requires c.loop-i.invariant.running (omega (arith, c.loop-i-test.true, gates_in_lem c.args.self.now.circuit.now))
+pub loop-i-init : goal.loop-i-init
+loop-i-init c = record { same = search rules; running = running_first c.requires.fresh }
+
+pub turn-requires : goal.turn-requires
+turn-requires c = running_before c.requires.ready c.loop-i.invariant.running (more (goal.at.turn-requires c).In-loop-i)
 
 pub loop-i-preserved : goal.loop-i-preserved
 loop-i-preserved c = record {
   same = search rules;
   running =
-      running_next c.requires c.loop-i.invariant.running (omega (arith, c.loop-i-test.true, gates_in_lem c.args.self.now.circuit.now))
-      c.turn-so_far.ensures.turned;
+      running_next c.requires.ready c.loop-i.invariant.running (more (goal.at.loop-i-preserved c).In-loop-i) c.turn.ensures.turned;
 }
 
 pub returns-clause-done : goal.returns-clause-done
-returns-clause-done c =
-    running_last c.requires c.loop-i.invariant.running (omega (arith, c.loop-i-test.false, gates_in_lem c.args.self.now.circuit.now))
+returns-clause-done c = running_last c.requires.ready c.loop-i.invariant.running (rw c.gate_count-i-end.ensures at c.loop-i-test.false)
