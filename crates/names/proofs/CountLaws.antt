@@ -11,8 +11,7 @@ use Rattle.rules.specs.Sites.{Site}
 use Rattle.rules.specs.Counts.{count, counted, check8}
 use Rattle.rows.specs.Passed.{Passes}
 use Rattle.rows.specs.ByRow.{site_at, scope_at}
-use Rattle.rows.proofs.Formed.{formed, expr_law, node_law}
-use Rattle.rows.proofs.ByRows.{site_is}
+use Rattle.rows.proofs.Formed.{formed, expr_law}
 use Rattle.table.specs.declared.row.Row.{Row}
 use Rattle.table.specs.Shapes.{as_kind}
 use Rattle.table.specs.Meaning.{meaning_of, meaning_at}
@@ -20,8 +19,8 @@ use Rattle.names.specs.declared.notes.Given.{Given}
 use Rattle.names.specs.Declares.{name_of, Declares}
 use Rattle.names.specs.Notes.{given_at}
 use Rattle.names.specs.Counts.{count_by, counted_by, CanCount}
-use Rattle.names.proofs.NoteLaws.{said, passes_two, passes_three}
-use Rattle.names.proofs.ToldLaws.{meant_op_lem, node_with, found_with, NotedWords, said_is, noted_words}
+use Rattle.names.proofs.NoteLaws.{said, passes_two}
+use Rattle.names.proofs.ToldLaws.{meant_op_lem, node_with, site_with, found_with, NotedWords, said_is, noted_words}
 
 module _ (t : List ℕ) (sc : Scope) (r a b c : ℕ) (counts : List ℕ) where
   -- the count of an expression of a kind
@@ -57,8 +56,6 @@ module _ {table counts : List ℕ} {binders : List (code.Option Row)} {r : ℕ} 
   pub counted_at_row : counted_by (meaning_at t r) given.length counts ≡ check8 (site_at table r)
   unfolding meaning_at check8
   counted_at_row =
-      let shapes = formed table (passes_two table ok) in
       rw (said_is table binders r ok declares can.there)
       (counted_of_kind t (scope_at table r) r (word t r 1) (word t r 2) (word t r 3) counts (kind_at t r) (noted_words ok can)
-      ∙ ap (counted (scope_at table r)) (sym (node_law shapes r can.there))
-      ∙ sym (ap (λ (s : Site). counted s.scope s.node) (site_is table (passes_three table ok) r can.there)))
+      ∙ sym (ap (λ (s : Site). counted s.scope s.node) (site_with table ok r can.there)))

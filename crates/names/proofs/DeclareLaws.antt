@@ -78,9 +78,9 @@ in_table_has table s (x ∷ xs) (inl e) all = subst (λ (s : Site). InTable tabl
 in_table_has table s (x ∷ xs) (inr h) all = in_table_has table s xs h (All-tail (λ s. InTable table (stands_for s)) x xs all)
 
 -- the row that is noted is a row of the table
-binder_inside : (table : List ℕ) (found : rules.Option Known) → InTable table found → IfSome (binder_of found) (λ binder. binder.0 < rows_of table)
-binder_inside table none is = tt
-binder_inside table (some k) is = is.0
+noted_inside : (table : List ℕ) (found : rules.Option Known) → InTable table found → IfSome (binder_of found) (λ binder. binder.0 < rows_of table)
+noted_inside table none is = tt
+noted_inside table (some k) is = is.0
 
 -- and it is the row that binds the name
 binder_knows : (table : List ℕ) (found : rules.Option Known) → InTable table found → known_by (words table) (binder_of found) ≡ found
@@ -143,9 +143,9 @@ module _ (table : List ℕ) (ok : Passes 4 table) where
       -- the array is as long as it should be
       module _ (long : length walk.binders.now ≡ 1024) where
         -- at each row, it is noted what binds the name of its site
-        noted-all : (q : ℕ) → q < rows_of table → get_or walk'.binders.now q None ≡ binder_of (stands_for (site_at table q))
+        noted_each : (q : ℕ) → q < rows_of table → get_or walk'.binders.now q None ≡ binder_of (stands_for (site_at table q))
         unfolding site_at
-        noted-all q l =
+        noted_each q l =
             rw swept_all.noted_is
             (noted_at (sites_of table) walk.binders.now q (rows_once table passes_3 q l) (omega (arith, rows_few table passes_1)))
 
@@ -160,6 +160,6 @@ module _ (table : List ℕ) (ok : Passes 4 table) where
         -- for each row the row that binds its name is noted
         pub declares_all : Declares table walk'.binders.now
         declares_all = record {
-          stands = λ q l. rw (noted-all q l) (binder_knows table (stands_for (site_at table q)) (in_table_all q l) ∙ stands_at q l);
-          inside = λ q l. rw (noted-all q l) (binder_inside table (stands_for (site_at table q)) (in_table_all q l));
+          stands = λ q l. rw (noted_each q l) (binder_knows table (stands_for (site_at table q)) (in_table_all q l) ∙ stands_at q l);
+          inside = λ q l. rw (noted_each q l) (noted_inside table (stands_for (site_at table q)) (in_table_all q l));
         }

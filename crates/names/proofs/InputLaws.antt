@@ -17,14 +17,12 @@ use Rattle.circuit.specs.declared.sorts.Sort.{Sort}
 use Rattle.circuit.specs.Sorts.{meant_sort}
 use Rattle.circuit.specs.Slots.{InTable, slot_of, sort_at, other_than}
 use Rattle.rows.specs.Passed.{Passes}
-use Rattle.rows.specs.ByRow.{site_at, scope_at}
-use Rattle.rows.proofs.Table.{passes_fewer}
-use Rattle.rows.proofs.Formed.{fields, formed, node_law}
-use Rattle.rows.proofs.ByRows.{site_is}
+use Rattle.rows.specs.ByRow.{site_at}
+use Rattle.rows.proofs.Formed.{fields, formed}
 use Rattle.table.specs.Shapes.{as_kind}
 use Rattle.table.specs.Meaning.{type_number, as_type, meaning_of, meaning_at}
 use Rattle.names.specs.Types.{kept, read_of, ReadIn, clash_of, seen_after, read_below, InputsSeen}
-use Rattle.names.proofs.NoteLaws.{passes_three}
+use Rattle.names.proofs.ToldLaws.{site_with}
 
 -- The table of inputs, after one more is read at sort s. `clash` tells of each input whether it was read before at another sort than m.
 module _ (seen : List (code.Option Sort)) (d n : ℕ) (s m : Sort) (clash : ℕ → ℕ → Bool)
@@ -147,7 +145,5 @@ pub passing_clash : (table : List ℕ) → Passes 5 table → (i : ℕ) → i < 
 unfolding check6 typed expr_of
 passing_clash table ok i h passes e =
     let t = words table in
-    let three = passes_three table ok in
-    let at_node = ap (λ (s : Site). typed t s.scope s.node) (site_is table three i h) in
-    let law = ap (typed t (scope_at table i)) (node_law (formed table (passes_fewer table 2 three)) i h) in
-    not-true (clash_to t i i) (rw e at (sym (at_node ∙ law) ∙ passes))
+    let at_node = ap (λ (s : Site). typed t s.scope s.node) (site_with table ok i h) in
+    not-true (clash_to t i i) (rw e at (sym at_node ∙ passes))

@@ -1,12 +1,14 @@
 -- What a row does with a name, kind by kind: as its meaning says, so does what stands at the row.
 use Prim.Native.Nat.{ℕ, ◌<◌}
-use mathlib.Core.Path.{◌≡◌, refl, ap, ◌∙◌}
+use mathlib.Core.Path.{◌≡◌, ap, ◌∙◌}
 use mathlib.Core.Option as rules
 use mathlib.Core.Option.{none, some}
 use mathlib.Core.List.{List}
+use native.Mathlib.Omega.{arith}
+use Rattle.std.proofs.lemmas.Grind.{common_steps}
 use Rattle.std.specs.Prelude.{Option, Some, None}
-use Rattle.rules.specs.Rows.{Name, Kind, unknown, is_e, is_s, of_number, of_truth, of_name, of_two, of_choose, of_element, of_input}
-use Rattle.rules.specs.Rows.{of_declare, of_assign, of_loop, of_write, of_branch, of_out, of_then, word, kind_at}
+use Rattle.rules.specs.Rows.{Name, Kind}
+use Rattle.rules.specs.Rows.{word, kind_at}
 use Rattle.rules.specs.Tree.{Expr, Stmt, expr_of, stmt_of, expr_at, stmt_at}
 use Rattle.rules.specs.Scope.{Scope}
 use Rattle.rules.specs.Sites.{Node, site}
@@ -29,33 +31,11 @@ named_by (Some naming) = some naming.name
 module _ (r a b c : ℕ) where
   -- a row whose meaning is a declaration makes its name a declared one
   declare_of : (k : Kind) → is_declare (meaning_of (as_kind k) a b c) ≡ is_declared (some (known_of k r b c))
-  declare_of unknown = refl
-  declare_of (is_e of_number) = refl
-  declare_of (is_e of_truth) = refl
-  declare_of (is_e of_name) = refl
-  declare_of (is_e (of_two o)) = refl
-  declare_of (is_e of_choose) = refl
-  declare_of (is_e of_element) = refl
-  declare_of (is_e of_input) = refl
-  declare_of (is_s of_declare) = refl
-  declare_of (is_s of_assign) = refl
-  declare_of (is_s of_loop) = refl
-  declare_of (is_s of_write) = refl
-  declare_of (is_s of_branch) = refl
-  declare_of (is_s of_out) = refl
-  declare_of (is_s of_then) = refl
+  declare_of k = grind (arith, common_steps)
 
   -- what a row makes of its name keeps the row
   row_known_of : (k : Kind) → row_k (known_of k r b c) ≡ r
-  row_known_of unknown = refl
-  row_known_of (is_e k) = refl
-  row_known_of (is_s of_declare) = refl
-  row_known_of (is_s of_assign) = refl
-  row_known_of (is_s of_loop) = refl
-  row_known_of (is_s of_write) = refl
-  row_known_of (is_s of_branch) = refl
-  row_known_of (is_s of_out) = refl
-  row_known_of (is_s of_then) = refl
+  row_known_of k = grind (arith, common_steps)
 
   module _ (sub : ℕ → Expr) (part : ℕ → Stmt) where
     -- what is made of a kind and its words
@@ -70,21 +50,7 @@ module _ (r a b c : ℕ) where
 
     names : (k : Kind) → Names k
     unfolding name_of named expr_of stmt_of
-    names unknown = (refl, λ sc. refl)
-    names (is_e of_number) = (refl, λ sc. refl)
-    names (is_e of_truth) = (refl, λ sc. refl)
-    names (is_e of_name) = (refl, λ sc. refl)
-    names (is_e (of_two o)) = (refl, λ sc. refl)
-    names (is_e of_choose) = (refl, λ sc. refl)
-    names (is_e of_element) = (refl, λ sc. refl)
-    names (is_e of_input) = (refl, λ sc. refl)
-    names (is_s of_declare) = (refl, λ sc. refl)
-    names (is_s of_assign) = (refl, λ sc. refl)
-    names (is_s of_loop) = (refl, λ sc. refl)
-    names (is_s of_write) = (refl, λ sc. refl)
-    names (is_s of_branch) = (refl, λ sc. refl)
-    names (is_s of_out) = (refl, λ sc. refl)
-    names (is_s of_then) = (refl, λ sc. refl)
+    names k = (grind (arith, common_steps), λ sc. grind (arith, common_steps))
 
 -- a row of a table declares its name where its meaning is a declaration
 pub declare_at : (t : List ℕ) (r : ℕ) → is_declare (meaning_at t r) ≡ is_declared (some (known_at t r))

@@ -83,11 +83,11 @@ module _ {A : Type 0} (f : Scope → Expr → A) (blank : A) (table : List ℕ) 
   noted_none notes r h = grind (arith, common_steps)
 
   -- one row more is noted
-  pub noted-next : (notes : List A) (i : ℕ) (v : A) → NotedTo f blank table notes i → i < length notes
+  pub noted_next : (notes : List A) (i : ℕ) (v : A) → NotedTo f blank table notes i → i < length notes
       → (T (is_expr (kind_at (words table) i)) → v ≡ f (scope_at table i) (expr_at (words table) i)) → NotedTo f blank table (set notes i v) (i + 1)
-  noted-next notes i v lower room is r h e = let before = lower r in grind (arith, common_steps)
+  noted_next notes i v lower room is r h e = let before = lower r in grind (arith, common_steps)
 
   -- what is noted of an expression in a row is f of it in the row's scope
-  pub noted-part : {notes : List A} {r : ℕ} → CanNote f blank table notes r → (w : ℕ) → w < r → T (is_expr (kind_at (words table) w))
+  pub noted_part : {notes : List A} {r : ℕ} → CanNote f blank table notes r → (w : ℕ) → w < r → T (is_expr (kind_at (words table) w))
       → scope_at table w ≡ scope_at table r → get_or notes w blank ≡ f (scope_at table r) (expr_at (words table) w)
-  noted-part can w low e same = let noted = can.lower w low e in grind (arith, common_steps)
+  noted_part can w low e same = let noted = can.lower w low e in grind (arith, common_steps)

@@ -15,7 +15,7 @@ use Rattle.rows.proofs.Table.{rows_few}
 use Rattle.rows.proofs.ByRows.{by_rows_none, by_rows_lowest}
 use Rattle.table.proofs.LoopLaws.{FirstPass, first_none, first_breaks, first_next, first-all}
 use Rattle.names.specs.Notes.{NotedTo}
-use Rattle.names.proofs.NoteLaws.{passes_one, passes_three, noted_none, noted-next}
+use Rattle.names.proofs.NoteLaws.{passes_one, passes_three, noted_none, noted_next}
 
 -- the first i rows pass a check, and f of their expressions is noted
 pub record Noted {A : Type 0} (test : Site → Bool) (f : Scope → Expr → A) (blank : A) (table : List ℕ) (notes : List A) (i : ℕ) : Type 0 where
@@ -50,7 +50,7 @@ module _ {A : Type 0} {test : Site → Bool} {f : Scope → Expr → A} {blank :
       record {
         first = first_next so_far.first more passes;
         long = length-set notes i v ∙ so_far.long;
-        noted = noted-next f blank table notes i v so_far.noted room is;
+        noted = noted_next f blank table notes i v so_far.noted room is;
       }
 
   -- with all rows none fails

@@ -10,14 +10,13 @@ use Rattle.rules.specs.Labels.{public, check7}
 use Rattle.rules.specs.Answers.{rows_of, secret_in}
 use Rattle.rows.specs.Passed.{Passes}
 use Rattle.rows.specs.ByRow.{node_at, site_at}
-use Rattle.rows.proofs.Formed.{Formed, Holds, fields, formed, node_law, node_row}
+use Rattle.rows.proofs.Formed.{Formed, Holds, fields, formed, node_row}
 use Rattle.rows.proofs.Heads.{node_expr}
-use Rattle.rows.proofs.ByRows.{site_is}
 use Rattle.table.specs.Shapes.{as_kind}
 use Rattle.table.specs.Meaning.{meaning_of, meaning_at}
 use Rattle.names.specs.Labels.{marked, public_by, Labelled}
-use Rattle.names.proofs.NoteLaws.{passes_two, passes_three}
-use Rattle.names.proofs.ToldLaws.{node_with}
+use Rattle.names.proofs.NoteLaws.{passes_two}
+use Rattle.names.proofs.ToldLaws.{node_with, site_with}
 
 -- the expression of a row has that row
 pub row_of_expr : {t : List ℕ} {n : ℕ} → Formed t n → (w : ℕ) → w < n → T (is_expr (kind_at t w)) → row_e (expr_at t w) ≡ w
@@ -58,5 +57,4 @@ module _ (table : List ℕ) (secret : List Bool) (ok : Passes 5 table) (labelled
       let says = fields shapes r h (kind_at t r) refl in
       public_of_kind t r (word t r 1) (word t r 2) (word t r 3) (secret_in table) secret (kind_at t r)
       (marked_in (shape_of (kind_at t r)).a (word t r 1) says.a_is) (marked_in (shape_of (kind_at t r)).b (word t r 2) says.b_is)
-      ∙ ap (public (secret_in table)) (sym (node_law shapes r h))
-      ∙ sym (ap (λ (s : Site). public (secret_in table) s.node) (site_is table (passes_three table ok) r h))
+      ∙ sym (ap (λ (s : Site). public (secret_in table) s.node) (site_with table ok r h))

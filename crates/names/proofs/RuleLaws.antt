@@ -1,6 +1,6 @@
 -- The rules of labels, kind by kind: a set of rows keeps a row's rules and has its input exactly if the rule holds in it that the code
 -- follows at the row.
-use Rattle.std.proofs.Common.{ℕ, ◌<◌, ◌≡◌, refl, ap, ◌∙◌, Bool, ◌||◌, List, arith}
+use Rattle.std.proofs.Common.{ℕ, ◌<◌, ◌≡◌, refl, Bool, ◌||◌, List, arith}
 use Rattle.std.proofs.lemmas.Grind.{common_steps}
 use Rattle.std.specs.Prelude as code
 use Rattle.std.proofs.Math.Option.{Option}
@@ -12,21 +12,19 @@ use Rattle.rules.specs.Rows.{of_assign, of_write, of_name, of_two, of_choose, of
 use Rattle.rules.specs.Tree.{row_e, expr_of, stmt_of, expr_at}
 use Rattle.rules.specs.Scope.{Known, Scope, lookup}
 use Rattle.rules.specs.Names.{is_declared, named}
-use Rattle.rules.specs.Sites.{site}
 use Rattle.rules.specs.Labels.{when_read, when_stored, rules_of, inputs_of, Has, Keeps}
 use Rattle.rules.specs.Answers.{rows_of}
 use Rattle.rules.proofs.Labels.{ClosedAt}
 use Rattle.rows.specs.Passed.{Passes}
-use Rattle.rows.specs.ByRow.{site_at, depth_at, scope_at}
+use Rattle.rows.specs.ByRow.{site_at, scope_at}
 use Rattle.rows.proofs.Formed.{Formed, Holds, fields, formed, node_law}
-use Rattle.rows.proofs.ByRows.{site_is}
 use Rattle.table.specs.declared.row.Row.{Row}
 use Rattle.table.specs.Shapes.{as_kind}
 use Rattle.table.specs.Meaning.{meaning_of, meaning_at}
 use Rattle.names.specs.Declares.{name_of, Declares}
 use Rattle.names.specs.Labels.{asks, has, row_or, asked_row, RuleHolds}
-use Rattle.names.proofs.NoteLaws.{declared_row, passes_two, passes_three, named_at}
-use Rattle.names.proofs.ToldLaws.{node_with, found_with, declared_is}
+use Rattle.names.proofs.NoteLaws.{declared_row, passes_two, named_at}
+use Rattle.names.proofs.ToldLaws.{node_with, site_with, found_with, declared_is}
 use Rattle.names.proofs.PublicLaws.{row_of_expr}
 
 -- one of two asks for z exactly if each does
@@ -107,9 +105,7 @@ module _ (table : List ℕ) (binders : List (code.Option Row)) (ok : Passes 5 ta
   rule_at_row =
       let says = fields shapes r h (kind_at t r) refl in
       let passes = rw (node_law shapes r h) at (named_at table ok r h) in
-      let at_site : site_at table r ≡ site (depth_at table r) (scope_at table r) (node_with t r (kind_at t r) (word t r 1) (word t r 2) (word t r 3)) =
-      site_is table (passes_three table ok) r h ∙ ap (site (depth_at table r) (scope_at table r)) (node_law shapes r h) in
-      rw (declared_is table binders r ok declares h, at_site)
+      rw (declared_is table binders r ok declares h, site_with table ok r h)
       (rule_of_kind S t (scope_at table r) r (word t r 1) (word t r 2) (word t r 3) (kind_at t r) passes
       (row_in (shape_of (kind_at t r)).a (word t r 1) says.a_is) (row_in (shape_of (kind_at t r)).b (word t r 2) says.b_is)
       (row_in (shape_of (kind_at t r)).c (word t r 3) says.c_is))

@@ -1,17 +1,18 @@
 -- The search for a name: from the newest row of the stack backwards, as a lookup goes through the scope.
 use Prim.Native.Nat.{ℕ, ◌-◌, ◌<◌}
-use mathlib.Core.Path.{◌≡◌, refl}
+use mathlib.Core.Path.{◌≡◌, refl, subst}
 use mathlib.Core.Bool.{Bool, true, false, cond}
 use mathlib.Core.List.{List, [], ◌∷◌, ◌++◌, map}
 use lib.Dec.{eqb}
-use lib.ListN.{length, get_or}
+use lib.ListN.{length}
+use lib.Seq.{take-append_seam}
 use borrow.Author.Tests.{ne_eqb}
 use native.Mathlib.Omega.{arith}
 use mathlib.Core.Option as rules
 use mathlib.Core.Option.{some}
 use Rattle.std.specs.Prelude.{Option, Some, find, reverse, All, IfSome}
-use Rattle.std.proofs.lemmas.List.{get_or_append_left, get_or-reverse, length-append, length-reverse, reverse-append}
-use Rattle.std.proofs.lemmas.List.Elements.{All-tail}
+use Rattle.std.proofs.lemmas.List.{get_or-reverse, length-reverse, reverse-append}
+use Rattle.std.proofs.lemmas.List.Elements.{All-tail, All-take}
 use Rattle.words.specs.Words.{words}
 use Rattle.rules.specs.Rows.{Name, word}
 use Rattle.rules.specs.Scope.{Known, lookup}
@@ -45,9 +46,7 @@ found_before t older row x is other = rw (is, reverse-append older (row ∷ []),
 
 -- what holds of all elements of a list holds of the first of them
 pub All-front : {X : Type 0} (P : X → Type 0) (xs ys : List X) → All P (xs ++ ys) → All P xs
-All-front P xs ys all = λ k d l.
-    let same : get_or (xs ++ ys) k d ≡ get_or xs k d = get_or_append_left xs ys d k l in
-    rw same at (all k d (omega (arith, length-append xs ys)))
+All-front P xs ys all = subst (All P) (take-append_seam xs ys) (All-take P (length xs) (xs ++ ys) all)
 
 -- and of them from the last on
 pub All-reverse : {X : Type 0} (P : X → Type 0) (xs : List X) → All P xs → All P (reverse xs)

@@ -7,18 +7,18 @@ use Rattle.words.specs.Words.{words}
 use Rattle.rules.specs.Rows.{Op, Kind, word, kind_at, Field, within, expr, stmt, shape_of}
 use Rattle.rules.specs.Tree.{Expr, expr_of, stmt_of, expr_at, stmt_at}
 use Rattle.rules.specs.Scope.{Known, Scope}
-use Rattle.rules.specs.Sites.{Node}
+use Rattle.rules.specs.Sites.{Node, site}
 use Rattle.rules.specs.Answers.{rows_of}
 use Rattle.circuit.specs.Gates.{meant_op}
 use Rattle.rows.specs.Passed.{Passes}
-use Rattle.rows.specs.ByRow.{node_of, scope_at}
+use Rattle.rows.specs.ByRow.{node_of, site_at, depth_at, scope_at}
 use Rattle.rows.proofs.Formed.{formed, node_law}
-use Rattle.rows.proofs.ByRows.{Kid, kids}
+use Rattle.rows.proofs.ByRows.{Kid, kids, site_is}
 use Rattle.table.specs.declared.row.Row.{Row}
 use Rattle.table.specs.Shapes.{as_op}
 use Rattle.names.specs.Declares.{name_of, found_by, known_by, Declares}
 use Rattle.names.specs.Notes.{given_at, declaration_at, CanNote}
-use Rattle.names.proofs.NoteLaws.{said, declared_row, said_by, declared_by, passes_two, passes_three, noted-part}
+use Rattle.names.proofs.NoteLaws.{said, declared_row, said_by, declared_by, passes_two, passes_three, noted_part}
 
 -- an operator in code means the operator that it was made from
 pub meant_op_lem : (o : Op) → meant_op (as_op o) ≡ o
@@ -38,6 +38,14 @@ pub record NotedWords {A : Type 0} (f : Scope → Expr → A) (blank : A) (t : L
   pub a_is : NotedIn f blank t sc notes (shape_of k).a a
   pub b_is : NotedIn f blank t sc notes (shape_of k).b b
   pub c_is : NotedIn f blank t sc notes (shape_of k).c c
+
+-- the site of a row of a table that passes check 5
+pub site_with : (table : List ℕ) → Passes 5 table → (r : ℕ) → r < rows_of table
+    → site_at table r ≡ site (depth_at table r) (scope_at table r)
+    (node_with (words table) r (kind_at (words table) r) (word (words table) r 1) (word (words table) r 2) (word (words table) r 3))
+site_with table ok r h =
+    site_is table (passes_three table ok) r h
+    ∙ ap (site (depth_at table r) (scope_at table r)) (node_law (formed table (passes_two table ok)) r h)
 
 -- what the name of a row of a kind stands for in a scope
 abbrev pub found_with : List ℕ → Scope → ℕ → Kind → ℕ → ℕ → ℕ → Option Known
@@ -69,7 +77,7 @@ module _ {A : Type 0} {f : Scope → Expr → A} {blank : A} {table : List ℕ} 
     (can : CanNote f blank table notes r) where
   noted_in : (fl : Field) (w : ℕ) → Kid table fl w r → NotedIn f blank (words table) (scope_at table r) notes fl w
   noted_in (within low high) w kid = tt
-  noted_in expr w kid = noted-part f blank table can w kid.0 kid.1 kid.2
+  noted_in expr w kid = noted_part f blank table can w kid.0 kid.1 kid.2
   noted_in stmt w kid = tt
 
   pub noted_words : NotedWords f blank (words table) (scope_at table r) notes (kind_at (words table) r)

@@ -14,8 +14,7 @@ use Rattle.rules.specs.Types.{type_e, is_a, clash_to, typed, check6}
 use Rattle.rules.specs.Answers.{rows_of}
 use Rattle.rows.specs.Passed.{Passes}
 use Rattle.rows.specs.ByRow.{site_at, scope_at}
-use Rattle.rows.proofs.Formed.{Formed, formed, expr_law, node_law}
-use Rattle.rows.proofs.ByRows.{site_is}
+use Rattle.rows.proofs.Formed.{Formed, formed, expr_law}
 use Rattle.table.specs.declared.row.Row.{Row}
 use Rattle.table.specs.declared.meaning.Ty.{Ty}
 use Rattle.table.specs.declared.meaning.Ty.TheVariants.{Uint}
@@ -25,8 +24,8 @@ use Rattle.names.specs.declared.notes.Given.{Given}
 use Rattle.names.specs.Declares.{name_of, Declares}
 use Rattle.names.specs.Notes.{given_at}
 use Rattle.names.specs.Types.{type_by, typed_by, same_type, CanType}
-use Rattle.names.proofs.NoteLaws.{said, passes_two, passes_three}
-use Rattle.names.proofs.ToldLaws.{meant_op_lem, node_with, found_with, NotedWords, said_is, noted_words}
+use Rattle.names.proofs.NoteLaws.{said, passes_two}
+use Rattle.names.proofs.ToldLaws.{meant_op_lem, node_with, site_with, found_with, NotedWords, said_is, noted_words}
 
 -- two types are one in code where they are in the rules
 as_types : (x y : rules.Ty) → same_type (as_type x) (as_type y) ≡ is_a x y
@@ -79,5 +78,4 @@ module _ {table : List ℕ} {binders : List (code.Option Row)} {types : List Ty}
   typed_at_row other clash =
       rw (said_is table binders r ok declares can.there)
       (typed_of_kind t (scope_at table r) r (word t r 1) (word t r 2) (word t r 3) types other (kind_at t r) (noted_words ok can) clash
-      ∙ ap (typed t (scope_at table r)) (sym (node_law shapes r can.there))
-      ∙ sym (ap (λ (s : Site). typed t s.scope s.node) (site_is table (passes_three table ok) r can.there)))
+      ∙ sym (ap (λ (s : Site). typed t s.scope s.node) (site_with table ok r can.there)))

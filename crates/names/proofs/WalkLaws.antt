@@ -7,12 +7,13 @@ use lib.Dec.{T}
 use lib.ListN.{length, take}
 use lib.Seq.{take-append_seam}
 use native.Mathlib.Omega.{arith}
+use Rattle.std.proofs.lemmas.Grind.{common_steps}
 use Rattle.std.proofs.lemmas.List.{reverse-append, length-append}
 use Rattle.std.proofs.lemmas.List.Elements.{All-append, All-cons, All-nil}
 use Rattle.arrayvec.specs.ArrayVec.{ArrayVec}
 use Rattle.words.specs.Words.{words}
-use Rattle.rules.specs.Rows.{Kind, unknown, is_e, is_s, of_number, of_truth, of_name, of_two, of_choose, of_element, of_input}
-use Rattle.rules.specs.Rows.{of_declare, of_assign, of_loop, of_write, of_branch, of_out, of_then, word, kind_at, is_stmt}
+use Rattle.rules.specs.Rows.{Kind, is_s}
+use Rattle.rules.specs.Rows.{of_declare, of_loop, of_branch, of_then, word, kind_at, is_stmt}
 use Rattle.rules.specs.Tree.{Stmt, type_of, stmt_of, expr_at, stmt_at}
 use Rattle.rules.specs.Scope.{declared, looped, Scope, after}
 use Rattle.rules.specs.Sites.{sites}
@@ -47,31 +48,13 @@ module _ (t : List ℕ) (sc : Scope) (r a b c : ℕ) where
 
   -- it says it of every kind
   says : (k : Kind) → Says (meaning_of (as_kind k) a b c) k
-  says unknown = (λ d. refl, refl)
-  says (is_e of_number) = (λ d. refl, refl)
-  says (is_e of_truth) = (λ d. refl, refl)
-  says (is_e of_name) = (λ d. refl, refl)
-  says (is_e (of_two o)) = (λ d. refl, refl)
-  says (is_e of_choose) = (λ d. refl, refl)
-  says (is_e of_element) = (λ d. refl, refl)
-  says (is_e of_input) = (λ d. refl, refl)
-  says (is_s of_declare) = refl
-  says (is_s of_assign) = (λ d. refl, refl)
-  says (is_s of_loop) = (refl, refl)
-  says (is_s of_write) = (λ d. refl, refl)
-  says (is_s of_branch) = (refl, refl, refl)
-  says (is_s of_out) = (λ d. refl, refl)
-  says (is_s of_then) = (refl, refl, refl)
+  says k = grind (arith, common_steps)
 
   -- so does a meaning that is none of the four
   says_plain : (v : Meaning) (k : Kind) → ((x : ℕ) (y : Ty) (n : ℕ) → v ≡ Declare x y n → ⊥)
       → ((x : ℕ) (body : Row) (f l : ℕ) → v ≡ For x body f l → ⊥) → ((g a b : Row) → v ≡ If g a b → ⊥) → ((a b : Row) → v ≡ Then a b → ⊥)
       → Says v k → ((d : ℕ) → inner t d sc k r a b c ≡ []) × (next t sc k r a b c ≡ sc)
-  says_plain (Declare x y n) k declare loop branch then s = absurd (declare x y n refl)
-  says_plain (For x body f l) k declare loop branch then s = absurd (loop x body f l refl)
-  says_plain (If g first second) k declare loop branch then s = absurd (branch g first second refl)
-  says_plain (Then first second) k declare loop branch then s = absurd (then first second refl)
-  says_plain _ k declare loop branch then s = s
+  says_plain v k declare loop branch then s = grind (arith, common_steps)
 
 -- with one row more on the stack, the scope has one binding more
 scope_push : (t : List ℕ) (stack : List Row) (row : Row) → scope_of t (stack ++ row ∷ []) ≡ binding_at t row.0 ∷ scope_of t stack

@@ -26,14 +26,19 @@ pub record IsNoted {A : Type 0} (IsDefault : A → Type 0) (notes : List A) (r :
 abbrev pub given_with : Ty → ℕ → ℕ → Given
 given_with y n l = record { ty = y; length = n; count = l }
 
+-- what is said of a name that stands for nothing
+abbrev pub given_none : Given
+given_none = given_with Uint 0 4294967295
+
+-- what the row that binds a name says of it, by its meaning
 abbrev pub given_by : Meaning → Given
 given_by (m.Declare x y n) = given_with y n 4294967295
 given_by (m.For x b f l) = given_with Uint 0 l
-given_by _ = given_with Uint 0 4294967295
+given_by _ = given_none
 
 -- what is said of a name, by the row that binds it
 abbrev pub given_at : List ℕ → Option Row → Given
-given_at t None = given_with Uint 0 4294967295
+given_at t None = given_none
 given_at t (Some binder) = given_by (meaning_at t binder.0)
 
 -- the declaration that a name stands for, by the row that binds it

@@ -39,19 +39,19 @@ same_type Uint Truth = false
 same_type Truth Uint = false
 same_type Truth Truth = true
 
--- check 6 of a row; `other` says that a lower row reads the row's input at the other type
+-- check 6 of a row; `clash` says that a lower row reads the row's input at the other type
 abbrev pub typed_by : Meaning → Given → List Ty → Bool → Bool
-typed_by (m.Name x) given types other = eqb given.length 0
-typed_by (m.Both o a b) given types other = same_type (get_or types a.0 Uint) Uint && same_type (get_or types b.0 Uint) Uint
-typed_by (m.Cond g a b) given types other =
+typed_by (m.Name x) given types clash = eqb given.length 0
+typed_by (m.Both o a b) given types clash = same_type (get_or types a.0 Uint) Uint && same_type (get_or types b.0 Uint) Uint
+typed_by (m.Cond g a b) given types clash =
     same_type (get_or types g.0 Uint) Truth && same_type (get_or types a.0 Uint) (get_or types b.0 Uint)
-typed_by (m.Element x i) given types other = not (eqb given.length 0) && same_type (get_or types i.0 Uint) Uint
-typed_by (m.Input y d n) given types other = not other
-typed_by (m.Assign x v) given types other = eqb given.length 0 && same_type (get_or types v.0 Uint) given.ty
-typed_by (m.Write x i v) given types other =
+typed_by (m.Element x i) given types clash = not (eqb given.length 0) && same_type (get_or types i.0 Uint) Uint
+typed_by (m.Input y d n) given types clash = not clash
+typed_by (m.Assign x v) given types clash = eqb given.length 0 && same_type (get_or types v.0 Uint) given.ty
+typed_by (m.Write x i v) given types clash =
     not (eqb given.length 0) && (same_type (get_or types i.0 Uint) Uint && same_type (get_or types v.0 Uint) given.ty)
-typed_by (m.If g a b) given types other = same_type (get_or types g.0 Uint) Truth
-typed_by _ given types other = true
+typed_by (m.If g a b) given types clash = same_type (get_or types g.0 Uint) Truth
+typed_by _ given types clash = true
 
 -- the sort at which a value of a type is kept
 abbrev pub kept : Ty → Sort

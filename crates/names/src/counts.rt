@@ -11,12 +11,13 @@ ghost use Rattle.table.specs.Checks.{Finds};
 ghost use Rattle.names.specs.Counts.{count_by, counted_by, CanCount};
 
 use crate::named::Named;
-use crate::notes::at;
+use crate::notes::{Notes, at};
 use circuit::gates::Op;
 use std::cmp::max;
 use table::meaning::Meaning;
-use table::row::Row;
+use table::row::{MAX_ROWS, Row};
 
+// What an operator counts, by what its two sides count.
 #[tactic(auto, unfolding(rules::specs::Counts::count_two))]
 fn op_count(op: Op, a: u32, b: u32) -> u32
     ensures { result ≡ count_two (meant_op op) a b }
@@ -27,8 +28,9 @@ fn op_count(op: Op, a: u32, b: u32) -> u32
     }
 }
 
-// The count of an expression, by its meaning, the count of the name in it, and the counts noted of lower rows.
-fn count_by(meaning: Meaning, given: u32, counts: &[u32; 1024]) -> u32
+// The count of an expression, by its meaning, the count of the name in it, and the counts noted of lower rows. The default arm is for
+// what counts no less than any word, and for rows that are no expression, of which the contract of `count_at` says nothing.
+fn count_by(meaning: Meaning, given: u32, counts: &Notes<u32>) -> u32
     ensures { result ≡ count_by meaning given counts.now }
 {
     match meaning {
@@ -42,7 +44,7 @@ fn count_by(meaning: Meaning, given: u32, counts: &[u32; 1024]) -> u32
 
 // The count of the expression at a row.
 #[tactic(auto, using(crate::proofs::CountLaws::count_at_row))]
-fn count_at(named: &Named, counts: &[u32; 1024], row: Row) -> u32
+fn count_at(named: &Named, counts: &Notes<u32>, row: Row) -> u32
     requires { CanCount named.now.table.now counts.now row.0 }
     ensures { T (is_expr (kind_at (words named.now.table.now) row.0))
         → result ≡ count (scope_at named.now.table.now row.0) (expr_at (words named.now.table.now) row.0) }
@@ -51,7 +53,7 @@ fn count_at(named: &Named, counts: &[u32; 1024], row: Row) -> u32
 }
 
 // Check 8 of a row, by its meaning, the length of the array that it names, and the counts noted of lower rows.
-fn counted_by(meaning: Meaning, size: u32, counts: &[u32; 1024]) -> bool
+fn counted_by(meaning: Meaning, size: u32, counts: &Notes<u32>) -> bool
     ensures { result ≡ counted_by meaning size counts.now }
 {
     match meaning {
@@ -62,7 +64,7 @@ fn counted_by(meaning: Meaning, size: u32, counts: &[u32; 1024]) -> bool
 
 // Check 8 of a row.
 #[tactic(auto, using(crate::proofs::CountLaws::counted_at_row))]
-fn counted(named: &Named, counts: &[u32; 1024], row: Row) -> bool
+fn counted(named: &Named, counts: &Notes<u32>, row: Row) -> bool
     requires { CanCount named.now.table.now counts.now row.0 }
     ensures { result ≡ check8 (site_at named.now.table.now row.0) }
 {
@@ -73,7 +75,7 @@ fn counted(named: &Named, counts: &[u32; 1024], row: Row) -> bool
 pub fn check_indexes(named: &Named) -> Result<(), Row>
     ensures { Finds (failing8 named.now.table.now) result }
 {
-    let mut counts = [0u32; 1024];
+    let mut counts = [0u32; MAX_ROWS];
     for i in 0..named.row_count() {
         let row = Row(i);
         if !counted(named, &counts, row) {

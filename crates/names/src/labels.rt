@@ -1,17 +1,18 @@
 // Labels, and check 7. Each row has one rule, "this row is secret if .."; passes over the rules mark rows until no pass marks one more.
 ghost use Rattle.std.specs.Prelude.{◌≡◌, ◌+◌, ◌<◌};
 ghost use Rattle.rules.specs.Answers.{rows_of, failing7};
+ghost use Rattle.rows.specs.Passed.{Passes};
 ghost use Rattle.table.specs.Checks.{Finds};
 ghost use Rattle.names.specs.Labels.{asked_by, asked_row, public_by, Labelled, Followed};
 
 use crate::named::Named;
-use crate::notes::at;
+use crate::notes::{Notes, at};
 use table::checks::lowest_failing;
-use table::meaning::Meaning;
-use table::row::Row;
+use table::meaning::{Meaning, meaning_at};
+use table::row::{Row, row_count};
 
 // The rule of a row asks for a mark, by its meaning, the declaration that its name stands for, and the marks so far.
-fn asked_by(meaning: Meaning, declaration: Option<Row>, secret: &[bool; 1024]) -> bool
+fn asked_by(meaning: Meaning, declaration: Option<Row>, secret: &Notes<bool>) -> bool
     ensures { result ≡ asked_by meaning declaration secret.now }
 {
     match meaning {
@@ -42,7 +43,7 @@ fn asked_row(meaning: Meaning, row: Row, declaration: Option<Row>) -> Row
 
 // The rule of a row is followed; whether that made a mark.
 #[tactic(auto, using(crate::proofs::LabelLaws::target_few, crate::proofs::LabelLaws::followed_unasked, crate::proofs::LabelLaws::followed_marked, crate::proofs::LabelLaws::followed_made))]
-fn follow(named: &Named, secret: &mut [bool; 1024], row: Row) -> bool
+fn follow(named: &Named, secret: &mut Notes<bool>, row: Row) -> bool
     requires { row.0 < rows_of named.now.table.now }
     ensures { Followed named.now.table.now named.now.binders.now secret.old secret.new
         row.0 (row.0 + 1) result }
@@ -61,7 +62,7 @@ fn follow(named: &Named, secret: &mut [bool; 1024], row: Row) -> bool
 }
 
 // The rules of all rows are followed once; whether that made a mark.
-fn pass(named: &Named, secret: &mut [bool; 1024]) -> bool
+fn pass(named: &Named, secret: &mut Notes<bool>) -> bool
     ensures { Followed named.now.table.now named.now.binders.now secret.old secret.new
         0 (rows_of named.now.table.now) result }
 {
@@ -74,7 +75,7 @@ fn pass(named: &Named, secret: &mut [bool; 1024]) -> bool
 
 // The secret rows are marked, of a table whose names are known.
 #[tactic(auto, using(crate::proofs::LabelLaws::marking_start, crate::proofs::LabelLaws::marking_done, crate::proofs::LabelLaws::marks_le))]
-pub fn label(named: &Named, secret: &mut [bool; 1024])
+pub fn label(named: &Named, secret: &mut Notes<bool>)
     ensures { Labelled named.now.table.now secret.new }
 {
     secret.fill(false);
@@ -82,7 +83,7 @@ pub fn label(named: &Named, secret: &mut [bool; 1024])
 }
 
 // Check 7 of a row, by its meaning and the marks: no secret index, and no secret guard of an if.
-fn public_by(meaning: Meaning, secret: &[bool; 1024]) -> bool
+fn public_by(meaning: Meaning, secret: &Notes<bool>) -> bool
     ensures { result ≡ public_by meaning secret.now }
 {
     match meaning {
@@ -93,11 +94,11 @@ fn public_by(meaning: Meaning, secret: &[bool; 1024]) -> bool
 }
 
 // Check 7, of a table whose secret rows are marked.
-pub fn check_public(named: &Named, secret: &[bool; 1024]) -> Result<(), Row>
-    requires { Labelled named.now.table.now secret.now }
-    ensures { Finds (failing7 named.now.table.now) result }
+pub fn check_public(table: &[u8], secret: &Notes<bool>) -> Result<(), Row>
+    requires { Passes 5 table.now × Labelled table.now secret.now }
+    ensures { Finds (failing7 table.now) result }
 {
-    lowest_failing(named.row_count(), |row| {
-        public_by(named.meaning(row), secret)
+    lowest_failing(row_count(table), |row| {
+        public_by(meaning_at(table, row), secret)
     })
 }

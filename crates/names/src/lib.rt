@@ -9,11 +9,12 @@ ghost use Rattle.names.specs.Promise.{verdict_of, Judged};
 use crate::counts::check_indexes;
 use crate::labels::{check_public, label};
 use crate::named::Named;
+use crate::notes::Notes;
 use crate::scope::check_names;
 use crate::types::check_types;
 use table::checks::{check_shapes, fits};
 use table::depths::check_depths;
-use table::row::Row;
+use table::row::{MAX_ROWS, Row};
 use table::uses::check_uses;
 
 pub mod counts;
@@ -47,11 +48,11 @@ pub enum Refusal {
 }
 
 // Checks 5 to 8, of a table that passes the first four. The secret rows are marked.
-fn judge_names(table: &[u8], secret: &mut [bool; 1024]) -> Result<(), Refusal>
+fn judge_names(table: &[u8], secret: &mut Notes<bool>) -> Result<(), Refusal>
     requires { Passes 4 table.now }
     ensures { Judged table.now secret.new result }
 {
-    let mut binders = [None; 1024];
+    let mut binders = [None; MAX_ROWS];
     check_names(table, &mut binders).map_err(|row| Refusal::Name { row })?;
     let named = Named {
         table,
@@ -59,13 +60,13 @@ fn judge_names(table: &[u8], secret: &mut [bool; 1024]) -> Result<(), Refusal>
     };
     check_types(&named).map_err(|row| Refusal::Typing { row })?;
     label(&named, secret);
-    check_public(&named, secret).map_err(|row| Refusal::Secret { row })?;
+    check_public(table, secret).map_err(|row| Refusal::Secret { row })?;
     check_indexes(&named).map_err(|row| Refusal::Index { row })
 }
 
 // Checks 1 to 8 of any bytes, and the secret rows of a table that is accepted.
 #[tactic(auto, using(crate::proofs::JudgeLaws::fit, crate::proofs::JudgeLaws::none_refused))]
-pub fn judge(table: &[u8], secret: &mut [bool; 1024]) -> Result<(), Refusal>
+pub fn judge(table: &[u8], secret: &mut Notes<bool>) -> Result<(), Refusal>
     ensures { Judged table.now secret.new result }
 {
     if !fits(table) {
@@ -81,6 +82,6 @@ pub fn judge(table: &[u8], secret: &mut [bool; 1024]) -> Result<(), Refusal>
 pub fn check(table: &[u8]) -> Result<(), Refusal>
     ensures { verdict_of result ≡ checked table.now }
 {
-    let mut secret = [false; 1024];
+    let mut secret = [false; MAX_ROWS];
     judge(table, &mut secret)
 }

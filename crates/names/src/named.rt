@@ -9,7 +9,7 @@ ghost use Rattle.names.specs.Declares.{Declares};
 ghost use Rattle.names.specs.Notes.{given_at, declaration_at};
 
 use crate::naming::is_declaration;
-use crate::notes::{Given, at, given_by};
+use crate::notes::{Given, Notes, at, given_by};
 use table::meaning::{Meaning, meaning_at};
 use table::row::{Row, row_count};
 
@@ -17,11 +17,13 @@ use table::row::{Row, row_count};
 pub struct Named<'a> {
     pub table: &'a [u8],
     // Of each row, the row that binds the name in it.
-    pub binders: &'a [Option<Row>; 1024],
+    pub binders: &'a Notes<Option<Row>>,
     ghost passes: { Passes 5 table.now },
     ghost declares: { Declares table.now binders.now } by { Prim.hlevel props },
 }
 
+// That a row is one of the table stays a clause of each method: a row's number comes from a loop or out of the table's own words, so a
+// type of rows bound to the table would be built with the same proof at each call.
 impl Named<'_> {
     pub fn row_count(&self) -> u32
         ensures { result ≡ rows_of self.now.table.now }

@@ -6,7 +6,7 @@ use table::meaning::Meaning;
 
 // What is done with a name.
 #[derive(Clone, Copy, Debug, PartialEq, Eq)]
-pub enum Act {
+pub enum NameUse {
     Reads,
     Binds,
     Stores,
@@ -15,25 +15,25 @@ pub enum Act {
 // What a row does with the name in it.
 #[derive(Clone, Copy, Debug, PartialEq, Eq)]
 pub struct Naming {
-    pub act: Act,
+    pub usage: NameUse,
     pub name: u32,
 }
 
 // What a row does with a name, if there is one in it.
-pub(crate) fn naming_of(meaning: Meaning) -> Option<Naming>
+pub fn naming_of(meaning: Meaning) -> Option<Naming>
     ensures { result ≡ naming_of meaning }
 {
     match meaning {
         Meaning::Name { name } | Meaning::Element { name, .. } => Some(Naming {
-            act: Act::Reads,
+            usage: NameUse::Reads,
             name,
         }),
         Meaning::Declare { name, .. } | Meaning::For { name, .. } => Some(Naming {
-            act: Act::Binds,
+            usage: NameUse::Binds,
             name,
         }),
         Meaning::Assign { name, .. } | Meaning::Write { name, .. } => Some(Naming {
-            act: Act::Stores,
+            usage: NameUse::Stores,
             name,
         }),
         _ => None,
@@ -41,7 +41,7 @@ pub(crate) fn naming_of(meaning: Meaning) -> Option<Naming>
 }
 
 // A row declares its name; a loop does not.
-pub(crate) fn is_declaration(meaning: Meaning) -> bool
+pub fn is_declaration(meaning: Meaning) -> bool
     ensures { result ≡ is_declare meaning }
 {
     matches!(meaning, Meaning::Declare { .. })

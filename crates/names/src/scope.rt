@@ -7,10 +7,11 @@ ghost use Rattle.names.specs.Declares.{Declares};
 ghost use Rattle.names.specs.Sweep.{LowestOf};
 
 use crate::naming::naming_of;
+use crate::notes::Notes;
 use crate::search::{allowed, find_named};
 use arrayvec::ArrayVec;
 use table::meaning::{Meaning, meaning_at};
-use table::row::{Row, row_count};
+use table::row::{MAX_ROWS, Row, row_count};
 use table::shapes::{Field, Sort, row_words};
 
 // The lowest failing row, after one more has failed.
@@ -26,14 +27,14 @@ fn lowered(lowest: Option<Row>, row: Row) -> Option<Row>
 struct Walk<'a> {
     table: &'a [u8],
     // The rows that bind the names in scope, the newest last.
-    scope: ArrayVec<Row, 1024>,
+    scope: ArrayVec<Row, MAX_ROWS>,
     // Of each row that has been looked at, the row that binds the name in it.
-    binders: &'a mut [Option<Row>; 1024],
+    binders: &'a mut Notes<Option<Row>>,
     // The lowest row that has failed check 5.
     lowest: Option<Row>,
 }
 
-impl<'a> Walk<'a> {
+impl Walk<'_> {
     ghost use Rattle.names.specs.Walk.{CanLook, CanPart, CanWalk, Looked, Walked, row_sites, head_sites, part_sites};
 
     // A row: the row that binds its name is noted, and it is checked.
@@ -106,7 +107,7 @@ impl<'a> Walk<'a> {
 }
 
 // Check 5, of a table that passes check 4. The row that binds the name of each row is noted.
-pub fn check_names(table: &[u8], binders: &mut [Option<Row>; 1024]) -> Result<(), Row>
+pub fn check_names(table: &[u8], binders: &mut Notes<Option<Row>>) -> Result<(), Row>
     requires { Passes 4 table.now }
     ensures { Finds (failing5 table.now) result × Declares table.now binders.new }
 {

@@ -12,13 +12,14 @@ ghost use Rattle.table.specs.Checks.{Finds};
 ghost use Rattle.names.specs.Types.{type_by, typed_by, kept, read_of, ReadIn, clash_of, seen_after, CanType, InputsSeen};
 
 use crate::named::Named;
-use crate::notes::{Given, at};
+use crate::notes::{Given, Notes, at};
 use circuit::checks::InputSorts;
 use circuit::gates::{Op, Read};
 use circuit::sorts::Sort;
 use table::meaning::{Meaning, Ty};
-use table::row::Row;
+use table::row::{MAX_ROWS, Row};
 
+// The type of what an operator gives.
 fn op_type(op: Op) -> Ty
     ensures { result ≡ as_type (result_type (meant_op op)) }
 {
@@ -28,8 +29,9 @@ fn op_type(op: Op) -> Ty
     }
 }
 
-// An expression's type, by its meaning, the type of the name in it, and the types noted of lower rows.
-fn type_by(meaning: Meaning, given: Ty, types: &[Ty; 1024]) -> Ty
+// An expression's type, by its meaning, the type of the name in it, and the types noted of lower rows. The default arm is for numbers,
+// and for rows that are no expression, of which the contract of `type_at` says nothing.
+fn type_by(meaning: Meaning, given: Ty, types: &Notes<Ty>) -> Ty
     ensures { result ≡ type_by meaning given types.now }
 {
     match meaning {
@@ -42,9 +44,10 @@ fn type_by(meaning: Meaning, given: Ty, types: &[Ty; 1024]) -> Ty
     }
 }
 
-// The type of the expression at a row.
+// The type of the expression at a row. (`type_at` and `count_at` of check 8, `typed` and `counted`, are not one generic: it would take
+// the rule, the type of what is noted and its definition as parameters, three of them for two uses: no plainer.)
 #[tactic(auto, using(crate::proofs::TypeLaws::type_at_row))]
-fn type_at(named: &Named, types: &[Ty; 1024], row: Row) -> Ty
+fn type_at(named: &Named, types: &Notes<Ty>, row: Row) -> Ty
     requires { CanType named.now.table.now types.now row.0 }
     ensures { T (is_expr (kind_at (words named.now.table.now) row.0))
         → result ≡ as_type (type_e (scope_at named.now.table.now row.0)
@@ -53,13 +56,14 @@ fn type_at(named: &Named, types: &[Ty; 1024], row: Row) -> Ty
     type_by(named.meaning(row), named.given(row).ty, types)
 }
 
-// The sort at which a value of a type is kept.
+// The sort at which a value of a type is kept. (No `From` says it, since the type and the sort are of other crates. The sorts go by
+// name, a form that document 01 names; the variants stand in patterns only.)
 fn kept(ty: Ty) -> Sort
     ensures { result ≡ kept ty }
 {
     match ty {
-        Ty::Uint => Sort::Arithmetic,
-        Ty::Bool => Sort::Bit,
+        Ty::Uint => Sort::ARITHMETIC,
+        Ty::Bool => Sort::BIT,
     }
 }
 
@@ -97,8 +101,8 @@ fn note_read(meaning: Meaning, inputs: &mut InputSorts)
 
 // Check 6 of a row, by its meaning, what is said of the name in it, the types noted of lower rows, and whether it reads an input
 // otherwise than a lower row.
-fn typed_by(meaning: Meaning, given: Given, types: &[Ty; 1024], other: bool) -> bool
-    ensures { result ≡ typed_by meaning given types.now other }
+fn typed_by(meaning: Meaning, given: Given, types: &Notes<Ty>, clash: bool) -> bool
+    ensures { result ≡ typed_by meaning given types.now clash }
 {
     match meaning {
         Meaning::Name { .. } => given.length == 0,
@@ -111,7 +115,7 @@ fn typed_by(meaning: Meaning, given: Given, types: &[Ty; 1024], other: bool) -> 
             second,
         } => at(types, guard) == Ty::Bool && at(types, first) == at(types, second),
         Meaning::Element { index, .. } => given.length != 0 && at(types, index) == Ty::Uint,
-        Meaning::Input { .. } => !other,
+        Meaning::Input { .. } => !clash,
         Meaning::Assign { value, .. } => given.length == 0 && at(types, value) == given.ty,
         Meaning::Write { index, value, .. } => {
             given.length != 0 && at(types, index) == Ty::Uint && at(types, value) == given.ty
@@ -123,7 +127,7 @@ fn typed_by(meaning: Meaning, given: Given, types: &[Ty; 1024], other: bool) -> 
 
 // Check 6 of a row.
 #[tactic(auto, using(crate::proofs::TypeLaws::typed_at_row, crate::proofs::InputLaws::clash_told, crate::proofs::InputLaws::read_in, crate::proofs::NoteLaws::passes_two))]
-fn typed(named: &Named, types: &[Ty; 1024], inputs: &InputSorts, row: Row) -> bool
+fn typed(named: &Named, types: &Notes<Ty>, inputs: &InputSorts, row: Row) -> bool
     requires { CanType named.now.table.now types.now row.0
         × InputsSeen named.now.table.now inputs.now.sorts row.0 }
     ensures { result ≡ check6 (words named.now.table.now) (site_at named.now.table.now row.0) }
@@ -137,7 +141,7 @@ fn typed(named: &Named, types: &[Ty; 1024], inputs: &InputSorts, row: Row) -> bo
 pub fn check_types(named: &Named) -> Result<(), Row>
     ensures { Finds (failing6 named.now.table.now) result }
 {
-    let mut types = [Ty::Uint; 1024];
+    let mut types = [Ty::Uint; MAX_ROWS];
     let mut inputs = InputSorts::new();
     for i in 0..named.row_count() {
         let row = Row(i);

@@ -11,7 +11,7 @@ returns-in_err-map_err c =
 pub returns-in_err-map_err-2 : goal.returns-in_err-map_err-2
 returns-in_err-map_err-2 c =
     judged_step c.args.table.now c.args.secret.now 5 (λ row why is. search rules) c.check_types.result c.map_err-2.result c.check_types.ensures c.map_err-2.ensures.cases
-    (search (rules, none_refused)) c.in_err-map_err-2.was c.from_residual-in_err-map_err-2.result c.from_residual-in_err-map_err-2.ensures.1
+    (search rules) c.in_err-map_err-2.was c.from_residual-in_err-map_err-2.result c.from_residual-in_err-map_err-2.ensures.1
 
 pub returns-in_err-map_err-3 : goal.returns-in_err-map_err-3
 returns-in_err-map_err-3 c =

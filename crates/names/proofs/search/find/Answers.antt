@@ -9,7 +9,7 @@ pub loop-row-preserved : goal.loop-row-preserved
 loop-row-preserved c =
     let table = c.args.table.now in
     let older = c.in-Some.older.now in
-    let row = c.in-Some.row.now in
+    let row = c.in-Some.field-0-0.now in
     let entries = c.in-Some.ensures.cases.0 in
     let passed = found_before (words table) older row c.args.name entries (λ e. c.if-word_at-name.false (c.word_at.ensures ∙ e)) in
     record {
