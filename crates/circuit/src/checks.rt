@@ -23,8 +23,9 @@ pub fn fits(circuit: &[u8]) -> bool
     circuit.len() % 4 == 0 && n % 5 == 0 && n <= 15000
 }
 
-// Functions and no methods: a struct round the kit's type would only stand before each use of it. That the sorts are those of some
-// gates is no invariant of a type either: the gates are others with each call.
+// Functions and no methods: a struct round the kit's type would only stand before each use of it, so be no plainer. That sorts and
+// inputs are those of some gates (`WiresNoted`, `InputsNoted`), and that a gate keeps the rules after them, is no invariant of a type
+// either: the gates are others with each call.
 
 // The sort of a wire, of the wires so far.
 fn made(sorts: &WireSorts, wire: Wire) -> Option<Sort>
@@ -57,7 +58,8 @@ fn is_next(sorts: &WireSorts, new: Wire) -> bool
     new.0 as usize == sorts.len()
 }
 
-// The sorts at which inputs were read: of desk 1 and then of desk 2, each input below 64.
+// The sorts at which inputs were read: of desk 1 and then of desk 2, each input below 64. That a read lies in the table (`InTable`) stays a
+// clause: `Read` holds whatever a gate has (the clause of `gate_at`), and a type for it would be built, with the same proof, at each call.
 #[derive(Debug, Drop)]
 pub struct InputSorts {
     pub sorts: [Option<Sort>; 128],
@@ -119,7 +121,8 @@ impl InputSorts {
             && !self.clashes(read)
     }
 
-    // Of a gate that keeps the rules, the input that it reads is noted.
+    // Of a gate that keeps the rules, the input that it reads is noted. (Check 6 does the like of a row: one contract speaks of gates, the
+    // other of a row's words, so one function for both would be no plainer.)
     #[tactic(auto, unfolding(rules::specs::Gates::keeps_rules, rules::specs::Gates::clashes))]
     fn note_input_of(&mut self, gate: Gate)
         requires { InputIn gate }

@@ -7,7 +7,7 @@ ghost use Rattle.circuit.specs.Gates.{meant_gate};
 
 use crate::sorts::Sort;
 
-// The number of a wire.
+// The number of a wire. (A tuple struct, as a public value and a row: document 01, "The forms we use".)
 #[derive(Clone, Copy, Debug, PartialEq, Eq)]
 pub struct Wire(pub u32);
 

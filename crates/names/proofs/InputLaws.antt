@@ -20,8 +20,8 @@ use Rattle.rows.specs.Passed.{Passes}
 use Rattle.rows.specs.ByRow.{site_at}
 use Rattle.rows.proofs.Formed.{fields, formed}
 use Rattle.table.specs.Shapes.{as_kind}
-use Rattle.table.specs.Meaning.{type_number, as_type, meaning_of, meaning_at}
-use Rattle.names.specs.Types.{kept, read_of, ReadIn, clash_of, seen_after, read_below, InputsSeen}
+use Rattle.table.specs.Meaning.{type_number, as_type, meaning_of, meaning_at, sort_kept}
+use Rattle.names.specs.Types.{read_of, ReadIn, clash_of, seen_after, read_below, InputsSeen}
 use Rattle.names.proofs.ToldLaws.{site_with}
 
 -- The table of inputs, after one more is read at sort s. `clash` tells of each input whether it was read before at another sort than m.
@@ -55,10 +55,10 @@ unfolding type_of
 number_of_type n h = grind (arith, common_steps)
 
 -- two types are one where their sorts are
-same_kept : (a : ℕ) (x y : Ty) → a ≡ type_number x → not (eqb a (type_number y)) ≡ not (same (meant_sort (kept (as_type x))) (meant_sort (kept (as_type y))))
+same_kept : (a : ℕ) (x y : Ty) → a ≡ type_number x → not (eqb a (type_number y)) ≡ not (same (meant_sort (sort_kept (as_type x))) (meant_sort (sort_kept (as_type y))))
 same_kept a x y e = grind (arith, common_steps)
 
-type_kept : (x y : Ty) → T (same (meant_sort (kept (as_type x))) (meant_sort (kept (as_type y)))) → x ≡ y
+type_kept : (x y : Ty) → T (same (meant_sort (sort_kept (as_type x))) (meant_sort (sort_kept (as_type y)))) → x ≡ y
 type_kept x y h = grind (arith, common_steps)
 
 -- a lower row clashes with a row where it reads the input at the other type
@@ -111,16 +111,16 @@ module _ (table : List ℕ) (ok : Passes 2 table) (i : ℕ) (h : i < rows_of tab
 
     -- a row that reads an input with which no lower row clashes is noted
     noted : kind_at t i ≡ is_e of_input → clash_to t i i ≡ false → length seen ≡ 128
-        → InputsSeen table (set seen (slot_of b c) (code.Some (kept (as_type (type_of a))))) (i + 1)
+        → InputsSeen table (set seen (slot_of b c) (code.Some (sort_kept (as_type (type_of a))))) (i + 1)
     unfolding read_below
     noted e free size d n place y =
         let (type_in, inside) = says e in
         let eight : eqb (word t i 0) 8 ≡ true = reads_eight t i ∙ ap reads e in
         let number = number_of_type a type_in in
-        let none : T (same (meant_sort (kept (as_type (type_of a)))) (meant_sort (kept (as_type y)))) → read_below t b c (type_number y) i ≡ false =
+        let none : T (same (meant_sort (sort_kept (as_type (type_of a)))) (meant_sort (sort_kept (as_type y)))) → read_below t b c (type_number y) i ≡ false =
         λ h. rw (← type_kept (type_of a) y h, number) (sym (clash_is t i i) ∙ free) in
         rw (add-one i, eight, same_kept a (type_of a) y (sym number))
-        (read_noted seen b c (kept (as_type (type_of a))) (kept (as_type y)) (λ e j. read_below t e j (type_number y) i)
+        (read_noted seen b c (sort_kept (as_type (type_of a))) (sort_kept (as_type y)) (λ e j. read_below t e j (type_number y) i)
         (λ e j place. told e j place y) inside size none d n place)
 
     -- so the table is right with a row more that passes

@@ -8,13 +8,12 @@ use Rattle.rules.specs.Types.{type_e, result_type}
 use Rattle.circuit.specs.Gates.{meant_op}
 use Rattle.circuit.specs.Slots.{InTable, slot_of, sort_at, other_than}
 use Rattle.circuit.specs.declared.sorts.Sort.{Sort}
-use Rattle.circuit.specs.declared.sorts.Sort.TheVariants.{Arithmetic, Bit}
 use Rattle.circuit.specs.declared.gates.Read.{Read}
 use Rattle.table.specs.declared.meaning.Ty.{Ty}
 use Rattle.table.specs.declared.meaning.Ty.TheVariants.{Uint, Bool as Truth}
 use Rattle.table.specs.declared.meaning.Meaning.{Meaning}
 use Rattle.table.specs.declared.meaning.Meaning.TheVariants as m
-use Rattle.table.specs.Meaning.{type_number, as_type}
+use Rattle.table.specs.Meaning.{type_number, as_type, sort_kept}
 use Rattle.names.specs.declared.notes.Given.{Given}
 use Rattle.names.specs.Notes.{CanNote}
 
@@ -53,14 +52,9 @@ typed_by (m.Write x i v) given types clash =
 typed_by (m.If g a b) given types clash = same_type (get_or types g.0 Uint) Truth
 typed_by _ given types clash = true
 
--- the sort at which a value of a type is kept
-abbrev pub kept : Ty → Sort
-kept Uint = Arithmetic
-kept Truth = Bit
-
 -- the input that a row reads, at the sort of its type
 abbrev pub read_of : Meaning → Option Read
-read_of (m.Input y d n) = Some (record { desk = d; number = n; sort = kept y })
+read_of (m.Input y d n) = Some (record { desk = d; number = n; sort = sort_kept y })
 read_of _ = None
 
 -- an input that is read has a place in the table of inputs
@@ -86,4 +80,4 @@ read_below t d n y (suc i) =
 abbrev pub InputsSeen : List ℕ → List (Option Sort) → ℕ → Type 0
 InputsSeen table seen i =
     (d n : ℕ) → InTable d n → (y : rules.Ty)
-    → read_below (words table) d n (type_number y) i ≡ other_than (sort_at seen d n) (kept (as_type y))
+    → read_below (words table) d n (type_number y) i ≡ other_than (sort_at seen d n) (sort_kept (as_type y))

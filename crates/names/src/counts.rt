@@ -42,7 +42,7 @@ fn count_by(meaning: Meaning, given: u32, counts: &Notes<u32>) -> u32
     }
 }
 
-// The count of the expression at a row.
+// The count of the expression at a row. (See `type_at`, for this and what follows.)
 #[tactic(auto, using(crate::proofs::CountLaws::count_at_row))]
 fn count_at(named: &Named, counts: &Notes<u32>, row: Row) -> u32
     requires { CanCount named.now.table.now counts.now row.0 }

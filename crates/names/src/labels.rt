@@ -41,7 +41,8 @@ fn asked_row(meaning: Meaning, row: Row, declaration: Option<Row>) -> Row
     }
 }
 
-// The rule of a row is followed; whether that made a mark.
+// The rule of a row is followed; whether that made a mark. (The marks stand beside `named`, since contracts then speak of a `named` that stays
+// while they change: a struct of both would be no plainer.)
 #[tactic(auto, using(crate::proofs::LabelLaws::target_few, crate::proofs::LabelLaws::followed_unasked, crate::proofs::LabelLaws::followed_marked, crate::proofs::LabelLaws::followed_made))]
 fn follow(named: &Named, secret: &mut Notes<bool>, row: Row) -> bool
     requires { row.0 < rows_of named.now.table.now }

@@ -18,8 +18,8 @@ pub fn at<T: Copy + Default>(notes: &Notes<T>, row: Row) -> T
     notes.get(row.0 as usize).copied().unwrap_or(blank)
 }
 
-// What the row that binds a name says of it: its type, its length and what it counts. (The length is 0 for what is no array, and no
-// `Option`: a declaration's row holds 0 there.)
+// What the row that binds a name says of it: its type, its length and what it counts. (The length is 0 for what is no array, as in
+// the row's word and the rules' `length_found`: an `Option` made of it here would be unmade where an index is compared with it: no plainer.)
 #[derive(Clone, Copy, Debug, PartialEq, Eq)]
 pub struct Given {
     pub ty: Ty,

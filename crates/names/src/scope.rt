@@ -50,7 +50,8 @@ impl Walk<'_> {
         }
     }
 
-    // A row and the expressions in it.
+    // A row and the expressions in it. (Its three words one by one: a loop in a cycle of calls needs an invariant of its own, and is no
+    // plainer.)
     #[cycle(walk_expr_walk_part)]
     fn walk_expr(&mut self, row: Row)
         requires { CanLook self.old row.0 }

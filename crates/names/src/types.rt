@@ -9,13 +9,12 @@ ghost use Rattle.circuit.specs.Gates.{meant_op};
 ghost use Rattle.rows.specs.ByRow.{site_at, scope_at};
 ghost use Rattle.table.specs.Meaning.{as_type};
 ghost use Rattle.table.specs.Checks.{Finds};
-ghost use Rattle.names.specs.Types.{type_by, typed_by, kept, read_of, ReadIn, clash_of, seen_after, CanType, InputsSeen};
+ghost use Rattle.names.specs.Types.{type_by, typed_by, read_of, ReadIn, clash_of, seen_after, CanType, InputsSeen};
 
 use crate::named::Named;
 use crate::notes::{Given, Notes, at};
 use circuit::checks::InputSorts;
 use circuit::gates::{Op, Read};
-use circuit::sorts::Sort;
 use table::meaning::{Meaning, Ty};
 use table::row::{MAX_ROWS, Row};
 
@@ -56,17 +55,6 @@ fn type_at(named: &Named, types: &Notes<Ty>, row: Row) -> Ty
     type_by(named.meaning(row), named.given(row).ty, types)
 }
 
-// The sort at which a value of a type is kept. (No `From` says it, since the type and the sort are of other crates. The sorts go by
-// name, a form that document 01 names; the variants stand in patterns only.)
-fn kept(ty: Ty) -> Sort
-    ensures { result ≡ kept ty }
-{
-    match ty {
-        Ty::Uint => Sort::ARITHMETIC,
-        Ty::Bool => Sort::BIT,
-    }
-}
-
 // The input that a row reads, at the sort of its type.
 fn read_of(meaning: Meaning) -> Option<Read>
     ensures { result ≡ read_of meaning }
@@ -75,7 +63,7 @@ fn read_of(meaning: Meaning) -> Option<Read>
         Meaning::Input { ty, desk, number } => Some(Read {
             desk,
             number,
-            sort: kept(ty),
+            sort: ty.into(),
         }),
         _ => None,
     }

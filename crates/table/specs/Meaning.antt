@@ -4,6 +4,8 @@ use Rattle.std.specs.Prelude.{ℕ, ◌/◌, ◌%◌, List}
 use Rattle.rules.specs.Rows as rules
 use Rattle.rules.specs.Rows.{Row, word, kind_at}
 use Rattle.rules.specs.Tree.{type_of}
+use Rattle.circuit.specs.declared.sorts.Sort.{Sort}
+use Rattle.circuit.specs.declared.sorts.Sort.TheVariants.{Arithmetic, Bit}
 use Rattle.table.specs.declared.meaning.Ty.{Ty}
 use Rattle.table.specs.declared.meaning.Ty.TheVariants.{Uint, Bool}
 use Rattle.table.specs.declared.meaning.Meaning.{Meaning}
@@ -20,6 +22,11 @@ type_number rules.bool = 1
 abbrev pub as_type : rules.Ty → Ty
 as_type rules.uint = Uint
 as_type rules.bool = Bool
+
+-- the sort at which a value of a type is kept
+abbrev pub sort_kept : Ty → Sort
+sort_kept Uint = Arithmetic
+sort_kept Bool = Bit
 
 -- the meaning of a kind and the words a, b and c
 abbrev pub meaning_of : Kind → ℕ → ℕ → ℕ → Meaning

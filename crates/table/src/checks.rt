@@ -11,9 +11,10 @@ ghost use Rattle.table.specs.declared.row.Row as code;
 use crate::row::{MAX_ROWS, Row, row_count, word_at};
 use crate::shapes::{Field, Sort, row_words, shape_of};
 
-// `Passes k` asks in each check for one check more than in the one before, so no two of these clauses say the same.
+// `Passes k` stays a clause: no three functions ask for the same k, but for checks 6 to 8, which have it in names' `Named`.
 
-// The lowest of the rows below a number that fails a test, as an error.
+// The lowest of the rows below a number that fails a test, as an error. (Crate evaluate has the like of gates, by the library's `find`; its
+// test may be called of any gate, this one's of the rows below the number alone.)
 pub fn lowest_failing<F: Fn(Row) -> bool>(rows: u32, passes: F) -> Result<(), Row>
     requires { (r : code.Row) → r.0 < rows → F.pre passes r }
     ensures { FindsLowest (F.post passes) rows result }
@@ -34,7 +35,7 @@ pub fn fits(table: &[u8]) -> bool
     table.len() % 4 == 0 && 0 < n && n % 4 == 0 && n <= 4 * MAX_ROWS
 }
 
-// What a child of a row is: nothing where it is not lower.
+// What a child of a row is: nothing where it is not lower. (That the row lies in the table: see `word_at`.)
 #[tactic(auto, unfolding(rules::specs::Rows::kind_at))]
 fn child_sort(table: &[u8], row: Row, child: Row) -> Option<Sort>
     requires { In table.now row.0 }

@@ -11,7 +11,8 @@ use crate::shapes::row_words;
 // The depth of the deepest row that passes.
 const MAX_DEPTH: u32 = 64;
 
-// A table with a depth for each of its rows. Each step says that it keeps the table: lent apart, the two would travel together.
+// A table with a depth for each of its rows. Each step says that it keeps the table: lent apart, the two would travel together. How far the
+// sinking is (`Sinking`) stays a clause: each step changes it.
 #[derive(Drop)]
 struct Depths<'a> {
     table: &'a [u8],

@@ -8,6 +8,7 @@ ghost use Rattle.table.specs.Meaning.{as_type, meaning_of, meaning_at};
 use crate::row::Row;
 use crate::shapes::{Kind, RowWords, row_words};
 use circuit::gates::{Op, Value};
+use circuit::sorts::Sort;
 
 // A type, 0 and 1 in a table.
 #[derive(Clone, Copy, Debug, Default, PartialEq, Eq)]
@@ -27,7 +28,21 @@ impl From<u32> for Ty {
     }
 }
 
-// What a row means. A row of no kind means `Nothing`: `Option<Meaning>` is no plainer, as each pattern of each check would stand in `Some`,
+// The sort at which a value of a type is kept. (The sorts go by name, a form that document 01 names.)
+impl From<Ty> for Sort {
+    ghost use Rattle.table.specs.Meaning.{sort_kept};
+
+    ghost from_gives = { λ ty sort. sort ≡ sort_kept ty };
+
+    fn from(ty: Ty) -> Sort {
+        match ty {
+            Ty::Uint => Sort::ARITHMETIC,
+            Ty::Bool => Sort::BIT,
+        }
+    }
+}
+
+// What a row means. (A truth is 0 or 1 by check 2, and its word here, as a number's: the count and the gates take words.) A row of no kind means `Nothing`: `Option<Meaning>` is no plainer, as each pattern of each check would stand in `Some`,
 // for a row that check 2 has refused before any of them is asked.
 #[derive(Clone, Copy, Debug, PartialEq, Eq)]
 pub enum Meaning {
@@ -56,7 +71,7 @@ pub enum Meaning {
     },
     Input {
         ty: Ty,
-        // 1 or 2 by check 2, and a number here: the gates of an input hold whatever number stands in the row.
+        // A number: `meaning_at` speaks of whatever words stand in the row. It is 1 or 2 by check 2.
         desk: u32,
         number: u32,
     },

@@ -8,7 +8,7 @@ ghost use Rattle.rows.specs.Passed.{In, Passes};
 // The most rows of a table that passes check 1. Fixed memory, no heap: what a check notes of each row lies in an array of this many.
 pub const MAX_ROWS: usize = 1024;
 
-// The number of a row.
+// The number of a row. (A tuple struct: document 01, "The forms we use".)
 #[derive(Clone, Copy, Debug, Default, PartialEq, Eq, PartialOrd, Ord)]
 pub struct Row(pub u32);
 

@@ -10,7 +10,7 @@ use crate::row::{Row, word_at};
 use circuit::gates::Op;
 
 // The kinds of rows. A number that is no kind is `Unknown`, as in the rules, where every number has a kind and a shape (the clause of
-// `shape_of`). `Option<Kind>` is no plainer: each pattern of each later check would stand in `Some`, for a row that check 2 has refused.
+// `shape_of`). `Option<Kind>` is no plainer: the one match on a kind (`Meaning::from`) would have an arm `None` for the arm `Unknown`.
 #[derive(Clone, Copy, Debug, PartialEq, Eq)]
 pub enum Kind {
     Unknown,
@@ -170,7 +170,7 @@ pub fn shape_of(kind: u32) -> Shape
     SHAPES.get(kind as usize).copied().unwrap_or(UNKNOWN)
 }
 
-// What is read of a row.
+// The words of a row, with its shape. (That the row lies in the table: see `word_at`.)
 #[tactic(auto, unfolding(rules::specs::Rows::kind_at))]
 pub fn row_words(table: &[u8], row: Row) -> RowWords
     requires { In table.now row.0 }

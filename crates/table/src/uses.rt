@@ -8,7 +8,8 @@ use crate::checks::lowest_failing;
 use crate::row::{MAX_ROWS, Row, row_count};
 use crate::shapes::row_words;
 
-// A table with a counter for each of its rows. Each step says that it keeps the table: lent apart, the two would travel together.
+// A table with a counter for each of its rows. Each step says that it keeps the table: lent apart, the two would travel together. How far the
+// counting is (`Tallied`) stays a clause: each step changes it.
 #[derive(Drop)]
 struct Tally<'a> {
     table: &'a [u8],
