@@ -11,7 +11,8 @@ ghost use Rattle.table.specs.declared.row.Row as code;
 use crate::row::{MAX_ROWS, Row, row_count, word_at};
 use crate::shapes::{Field, Sort, row_words, shape_of};
 
-// `Passes k` stays a clause: no three functions ask for the same k, but for checks 6 to 8, which have it in names' `Named`.
+// `Passes k` stays a clause: no three functions ask for the same k. (Of the checks after 5, which all ask for 5, names' 6 and 8 and the labels have
+// it in `Named`.)
 
 // The lowest of the rows below a number that fails a test, as an error. (Crate evaluate has the like of gates, by the library's `find`; its
 // test may be called of any gate, this one's of the rows below the number alone.)
