@@ -29,7 +29,7 @@ use Rattle.rows.proofs.ByRows.{rows_once, site_there, site_is, bindings_fit}
 use Rattle.table.specs.declared.row.Row.{Row}
 use Rattle.table.specs.Checks.{Finds}
 use Rattle.names.specs.declared.scope.Walk.{Walk}
-use Rattle.names.specs.Declares.{name_of, found_by, known_by, Declares}
+use Rattle.names.specs.Declares.{name_of, found_by, known_by, Declares, Knows}
 use Rattle.names.specs.Stack.{scope_of}
 use Rattle.names.specs.Sweep.{binder_of, stands_for, noted, InTable, LowestOf, Swept}
 use Rattle.names.specs.Walk.{CanWalk, Walked}
@@ -163,3 +163,7 @@ module _ (table : List ℕ) (ok : Passes 4 table) where
           stands = λ q l. rw (noted_each q l) (binder_knows table (stands_for (site_at table q)) (in_table_all q l) ∙ stands_at q l);
           inside = λ q l. rw (noted_each q l) (noted_inside table (stands_for (site_at table q)) (in_table_all q l));
         }
+
+-- check 5 leaves no less than the checks after it ask
+pub declares_knows : {table : List ℕ} {binders : List (Option Row)} → Declares table binders → Knows table binders
+declares_knows declares = record { stands = λ r h k e. declares.stands r h ∙ e; inside = declares.inside }

@@ -21,7 +21,7 @@ use Rattle.table.specs.declared.row.Row.{Row}
 use Rattle.table.specs.declared.meaning.Meaning.{Meaning}
 use Rattle.table.specs.Shapes.{as_kind}
 use Rattle.table.specs.Meaning.{meaning_of, meaning_at}
-use Rattle.names.specs.Declares.{Declares}
+use Rattle.names.specs.Declares.{Knows}
 use Rattle.names.specs.Notes.{declaration_at}
 use Rattle.names.specs.Labels.{marked, asks, has, row_or, asked_row, declaration_of, RuleHolds, marks, Within, Followed, Labelled}
 use Rattle.names.proofs.NoteLaws.{passes_one, passes_two, passes_three}
@@ -94,7 +94,7 @@ row_inside : (n r : ℕ) (declaration : code.Option Row) → r < n → IfSome de
 row_inside n r declaration h inside = grind (arith, common_steps)
 
 -- A row whose rule asks for a mark.
-module _ {table : List ℕ} {binders : List (code.Option Row)} (ok : Passes 5 table) (declares : Declares table binders) (r : ℕ)
+module _ {table : List ℕ} {binders : List (code.Option Row)} (ok : Passes 5 table) (knows : Knows table binders) (r : ℕ)
     (h : r < rows_of table) where
   abbrev t : List ℕ
   t = words table
@@ -105,7 +105,7 @@ module _ {table : List ℕ} {binders : List (code.Option Row)} (ok : Passes 5 ta
 
   -- it is a row of the table
   declaration_below : IfSome d (λ e. e.0 < rows_of table)
-  declaration_below = declaration_inside t (rows_of table) (get_or binders r code.None) (declares.inside r h)
+  declaration_below = declaration_inside t (rows_of table) (get_or binders r code.None) (knows.inside r h)
 
   abbrev target : ℕ
   target = asked_row (meaning_at t r) r d
@@ -159,18 +159,18 @@ module _ {table : List ℕ} {binders : List (code.Option Row)} (ok : Passes 5 ta
         go S holds w q below p b e = let asked_more = asks_more (marked secret) S w in grind (arith, common_steps)
 
 -- A table that passes check 5, with the rows that bind names.
-module _ (table : List ℕ) (binders : List (code.Option Row)) (ok : Passes 5 table) (declares : Declares table binders) where
+module _ (table : List ℕ) (binders : List (code.Option Row)) (ok : Passes 5 table) (knows : Knows table binders) where
   -- the rules hold in a set exactly if it is closed
   rules_closed : (S : ℕ → Bool) → ((r : ℕ) → r < rows_of table → RuleHolds table binders S r)
       → Closed (all_inputs (sites_of table)) (all_rules (sites_of table)) S
   rules_closed S every =
       rules_each S (sites_of table)
-      (each_by_rows table (passes_three table ok) (ClosedAt S) (λ r h. (rule_at_row table binders ok declares S r h).0 (every r h)))
+      (each_by_rows table (passes_three table ok) (ClosedAt S) (λ r h. (rule_at_row table binders ok knows S r h).0 (every r h)))
 
   closed_rules : (S : ℕ → Bool) → Closed (all_inputs (sites_of table)) (all_rules (sites_of table)) S
       → (r : ℕ) → r < rows_of table → RuleHolds table binders S r
   closed_rules S is r h =
-      (rule_at_row table binders ok declares S r h).1
+      (rule_at_row table binders ok knows S r h).1
       (rows_by_each table (passes_three table ok) (ClosedAt S) (each_rules S (sites_of table) is) r h)
 
 -- marks are being made: every mark is in each set in which the rules hold
@@ -192,14 +192,14 @@ module _ {table : List ℕ} {binders : List (code.Option Row)} {secret secret' :
   }
 
   -- where a pass makes no mark, the secret rows are marked
-  pub marking_done : Passes 5 table → Declares table binders → made ≡ false → Labelled table secret'
+  pub marking_done : Passes 5 table → Knows table binders → made ≡ false → Labelled table secret'
   unfolding Secret
-  marking_done ok declares e =
+  marking_done ok knows e =
       let (same, every) = followed.none_made e in
-      let is = rules_closed table binders ok declares (marked secret) (λ r h. every r (omega arith) h) in
+      let is = rules_closed table binders ok knows (marked secret) (λ r h. every r (omega arith) h) in
       record {
         are = λ r h. ap (λ (s : List Bool). marked s r) same
             ∙ same_truth (marked secret r) (secret_in table r)
-            (marking.least (secret_in table) (closed_rules table binders ok declares (secret_in table) (labels_closed table ok.0 ok.1.0)) r h)
+            (marking.least (secret_in table) (closed_rules table binders ok knows (secret_in table) (labels_closed table ok.0 ok.1.0)) r h)
             (λ p. (labels_least table ok.0 ok.1.0 r).0 p (marked secret) is);
       }

@@ -13,7 +13,7 @@ use Rattle.words.specs.Words.{words}
 use Rattle.rules.specs.Rows.{Kind, word, kind_at, is_expr}
 use Rattle.rules.specs.Tree.{Expr, expr_at}
 use Rattle.rules.specs.Scope.{Known, declared, looped, Scope, type_found, length_found}
-use Rattle.rules.specs.Names.{named, check5}
+use Rattle.rules.specs.Names.{is_found, is_declared, named, check5}
 use Rattle.rules.specs.Counts.{count_found}
 use Rattle.rules.specs.Answers.{rows_of, failing5}
 use Rattle.rows.specs.Passed.{Passes}
@@ -58,6 +58,10 @@ module _ (t : List ℕ) where
   unfolding known_at meaning_at
   declared_by code.None = refl
   declared_by (code.Some d) = declared_of (kind_at t d.0) d.0 (word t d.0 1) (word t d.0 2) (word t d.0 3)
+
+-- what is declared is found
+pub declared_found : (o : Option Known) → T (is_declared o) → T (is_found o)
+declared_found o h = grind (arith, common_steps)
 
 module _ (table : List ℕ) (ok : Passes 5 table) where
   -- the first three checks are passed

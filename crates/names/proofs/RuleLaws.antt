@@ -1,6 +1,6 @@
 -- The rules of labels, kind by kind: a set of rows keeps a row's rules and has its input exactly if the rule holds in it that the code
 -- follows at the row.
-use Rattle.std.proofs.Common.{ℕ, ◌<◌, ◌≡◌, refl, Bool, ◌||◌, List, arith}
+use Rattle.std.proofs.Common.{ℕ, ◌<◌, ◌≡◌, refl, Bool, ◌||◌, List, get_or, arith}
 use Rattle.std.proofs.lemmas.Grind.{common_steps}
 use Rattle.std.specs.Prelude as code
 use Rattle.std.proofs.Math.Option.{Option}
@@ -17,14 +17,14 @@ use Rattle.rules.specs.Answers.{rows_of}
 use Rattle.rules.proofs.Labels.{ClosedAt}
 use Rattle.rows.specs.Passed.{Passes}
 use Rattle.rows.specs.ByRow.{site_at, scope_at}
-use Rattle.rows.proofs.Formed.{Formed, Holds, fields, formed, node_law}
+use Rattle.rows.proofs.Formed.{Formed, Holds, fields, formed}
 use Rattle.table.specs.declared.row.Row.{Row}
 use Rattle.table.specs.Shapes.{as_kind}
 use Rattle.table.specs.Meaning.{meaning_of, meaning_at}
-use Rattle.names.specs.Declares.{name_of, Declares}
+use Rattle.names.specs.Declares.{Knows}
 use Rattle.names.specs.Labels.{asks, has, row_or, asked_row, RuleHolds}
-use Rattle.names.proofs.NoteLaws.{declared_row, passes_two, named_at}
-use Rattle.names.proofs.ToldLaws.{node_with, site_with, found_with, declared_is}
+use Rattle.names.proofs.NoteLaws.{declared_row, declared_by, passes_two}
+use Rattle.names.proofs.ToldLaws.{node_with, site_with, named_with, KnownIn, known_in}
 use Rattle.names.proofs.PublicLaws.{row_of_expr}
 
 -- one of two asks for z exactly if each does
@@ -47,46 +47,42 @@ RowIn t (within low high) w = Unit {0}
 RowIn t expr w = row_e (expr_at t w) ≡ w
 RowIn t stmt w = Unit {0}
 
-module _ (S : ℕ → Bool) (t : List ℕ) (sc : Scope) (r a b c : ℕ) where
-  -- the declaration that the name of a row of a kind stands for
-  abbrev declaration : Kind → code.Option Row
-  declaration k = declared_row (found_with t sc r k a b c)
-
-  -- the rule that the code follows at the row
+module _ (S : ℕ → Bool) (t : List ℕ) (sc : Scope) (r a b c : ℕ) (q : Option Known) where
+  -- the rule that the code follows at a row of a kind, where it knows q of the row's name
   abbrev Follows : Kind → Type 0
-  Follows k = T (asks S (meaning_of (as_kind k) a b c) (has S (declaration k))) → T (S (asked_row (meaning_of (as_kind k) a b c) r (declaration k)))
+  Follows k = T (asks S (meaning_of (as_kind k) a b c) (has S (declared_row q))) → T (S (asked_row (meaning_of (as_kind k) a b c) r (declared_row q)))
 
   -- the rules and the input of the row
   abbrev Kept : Kind → Type 0
   Kept k = Keeps S (rules_of sc (node_with t r k a b c)) × Has S (inputs_of (node_with t r k a b c))
 
-  rule_of_kind : (k : Kind) → T (named sc (node_with t r k a b c)) → RowIn t (shape_of k).a a → RowIn t (shape_of k).b b → RowIn t (shape_of k).c c
-      → Follows k ↔ Kept k
-  unfolding rules_of inputs_of expr_of stmt_of named name_of
-  rule_of_kind (is_e of_name) passes first second third =
+  rule_of_kind : (k : Kind) → T (named sc (node_with t r k a b c)) → KnownIn sc k a q → RowIn t (shape_of k).a a → RowIn t (shape_of k).b b
+      → RowIn t (shape_of k).c c → Follows k ↔ Kept k
+  unfolding rules_of inputs_of expr_of stmt_of named
+  rule_of_kind (is_e of_name) passes known first second third =
       let (there, back) = read_rule S (lookup sc a) r in
-      (λ f. (there f, tt), λ k. back k.0)
-  rule_of_kind (is_e (of_two o)) passes first second third =
+      rw known (λ f. (there f, tt), λ k. back k.0)
+  rule_of_kind (is_e (of_two o)) passes known first second third =
       let (there, back) = either (S a) (S b) (S r) in
       rw (first, second) (λ f. (((there f).0, ((there f).1, tt)), tt), λ k. back (k.0.0, k.0.1.0))
-  rule_of_kind (is_e of_choose) passes first second third =
+  rule_of_kind (is_e of_choose) passes known first second third =
       let (there, back) = either (S a) (S b || S c) (S r) in
       let (there', back') = either (S b) (S c) (S r) in
       rw (first, second, third)
       (λ f. (((there f).0, ((there' (there f).1).0, ((there' (there f).1).1, tt))), tt), λ k. back (k.0.0, back' (k.0.1.0, k.0.1.1.0)))
-  rule_of_kind (is_e of_element) passes first second third =
+  rule_of_kind (is_e of_element) passes known first second third =
       let (there, back) = read_rule S (lookup sc a) r in
-      (λ f. (there f, tt), λ k. back k.0)
-  rule_of_kind (is_e of_input) passes first second third = (λ f. (tt, (f tt, tt)), λ k h. k.1.0)
-  rule_of_kind (is_s of_assign) passes first second third =
+      rw known (λ f. (there f, tt), λ k. back k.0)
+  rule_of_kind (is_e of_input) passes known first second third = (λ f. (tt, (f tt, tt)), λ k h. k.1.0)
+  rule_of_kind (is_s of_assign) passes known first second third =
       let (there, back) = store_rule S (lookup sc a) r b passes in
-      rw second (λ f. (there f, tt), λ k. back k.0)
-  rule_of_kind (is_s of_write) passes first second third =
+      rw (known, second) (λ f. (there f, tt), λ k. back k.0)
+  rule_of_kind (is_s of_write) passes known first second third =
       let (there, back) = store_rule S (lookup sc a) r c passes in
-      rw third (λ f. (there f, tt), λ k. back k.0)
-  rule_of_kind _ passes first second third = (λ f. (tt, tt), λ k h. absurd h)
+      rw (known, third) (λ f. (there f, tt), λ k. back k.0)
+  rule_of_kind _ passes known first second third = (λ f. (tt, tt), λ k h. absurd h)
 
-module _ (table : List ℕ) (binders : List (code.Option Row)) (ok : Passes 5 table) (declares : Declares table binders) (S : ℕ → Bool)
+module _ (table : List ℕ) (binders : List (code.Option Row)) (ok : Passes 5 table) (knows : Knows table binders) (S : ℕ → Bool)
     (r : ℕ) (h : r < rows_of table) where
   abbrev t : List ℕ
   t = words table
@@ -104,8 +100,8 @@ module _ (table : List ℕ) (binders : List (code.Option Row)) (ok : Passes 5 ta
   unfolding meaning_at
   rule_at_row =
       let says = fields shapes r h (kind_at t r) refl in
-      let passes = rw (node_law shapes r h) at (named_at table ok r h) in
-      rw (declared_is table binders r ok declares h, site_with table ok r h)
-      (rule_of_kind S t (scope_at table r) r (word t r 1) (word t r 2) (word t r 3) (kind_at t r) passes
+      rw (← declared_by t (get_or binders r code.None), site_with table ok r h)
+      (rule_of_kind S t (scope_at table r) r (word t r 1) (word t r 2) (word t r 3) _ (kind_at t r)
+      (named_with table ok r h) (known_in ok knows h)
       (row_in (shape_of (kind_at t r)).a (word t r 1) says.a_is) (row_in (shape_of (kind_at t r)).b (word t r 2) says.b_is)
       (row_in (shape_of (kind_at t r)).c (word t r 3) says.c_is))

@@ -1,5 +1,5 @@
--- What check 5 leaves: for each row that names something, the row that binds the name (document 01, "Names, labels, indexes").
--- Only functions inside the desk cite it.
+-- What check 5 leaves, and what checks 6 to 8 ask of it: for each row that names something, the row that binds the name (document 01,
+-- "Names, labels, indexes"). Only functions inside the desk cite it.
 use Rattle.std.specs.Prelude.{ℕ, ◌<◌, ◌≡◌, List, get_or, Option, Some, None, IfSome}
 use Rattle.std.proofs.Math.Option.{none, some}
 use Rattle.std.proofs.Math.Option as rules
@@ -45,4 +45,11 @@ known_by t (Some binder) = some (known_at t binder.0)
 pub record Declares (table : List ℕ) (binders : List (Option Row)) : Type 0 where
   pub stands : (r : ℕ) → r < rows_of table
       → known_by (words table) (get_or binders r None) ≡ found_by (scope_at table r) (name_of (node_at (words table) r))
+  pub inside : (r : ℕ) → r < rows_of table → IfSome (get_or binders r None) (λ binder. binder.0 < rows_of table)
+
+-- binders knows the names of a table: where a row's name stands for something, it has the row that binds the name, and at the other
+-- rows any row of the table or none (`Declares` says that too, and that it has none there)
+pub record Knows (table : List ℕ) (binders : List (Option Row)) : Type 0 where
+  pub stands : (r : ℕ) → r < rows_of table → (k : Known) → found_by (scope_at table r) (name_of (node_at (words table) r)) ≡ some k
+      → known_by (words table) (get_or binders r None) ≡ some k
   pub inside : (r : ℕ) → r < rows_of table → IfSome (get_or binders r None) (λ binder. binder.0 < rows_of table)

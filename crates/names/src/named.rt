@@ -1,11 +1,11 @@
-// A table whose names are known: it passes check 5, and the row that binds the name of each row is noted.
+// A table whose names are known: it passes check 5, and where a row's name stands for something, the row that binds it is noted.
 ghost use Rattle.std.specs.Prelude.{◌≡◌, ◌<◌, None, get_or};
 ghost use Rattle.std.proofs.Props.{props};
 ghost use Rattle.words.specs.Words.{words};
 ghost use Rattle.rules.specs.Answers.{rows_of};
 ghost use Rattle.rows.specs.Passed.{Passes};
 ghost use Rattle.table.specs.Meaning.{meaning_at};
-ghost use Rattle.names.specs.Declares.{Declares};
+ghost use Rattle.names.specs.Declares.{Knows};
 ghost use Rattle.names.specs.Notes.{given_at, declaration_at};
 
 use crate::naming::is_declaration;
@@ -16,10 +16,10 @@ use table::row::{Row, row_count};
 #[derive(Clone, Copy)]
 pub struct Named<'a> {
     pub table: &'a [u8],
-    // Of each row, the row that binds the name in it.
+    // Of each row whose name stands for something, the row that binds the name.
     pub binders: &'a Notes<Option<Row>>,
     ghost passes: { Passes 5 table.now },
-    ghost declares: { Declares table.now binders.now } by { Prim.hlevel props },
+    ghost knows: { Knows table.now binders.now } by { Prim.hlevel props },
 }
 
 // That a row is one of the table stays a clause of each method: a row's number comes from a loop or out of the table's own words, so a
@@ -38,7 +38,7 @@ impl Named<'_> {
         meaning_at(self.table, row)
     }
 
-    // What the row that binds a row's name says of the name.
+    // What the row that is noted says of a row's name.
     pub fn given(&self, row: Row) -> Given
         requires { row.0 < rows_of self.now.table.now }
         ensures { result ≡ given_at (words self.now.table.now) (get_or self.now.binders.now row.0 None) }
@@ -49,7 +49,7 @@ impl Named<'_> {
         }
     }
 
-    // The declaration that a row's name stands for; none where the name is a loop's, or there is none.
+    // The declaration that a row's name stands for: the row that is noted, if that is a declaration.
     pub fn declaration(&self, row: Row) -> Option<Row>
         requires { row.0 < rows_of self.now.table.now }
         ensures { result ≡ declaration_at (words self.now.table.now) (get_or self.now.binders.now row.0 None) }

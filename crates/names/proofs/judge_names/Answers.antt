@@ -1,7 +1,11 @@
 -- `judge_names` is the verdict of checks 5 to 8, of a table that passes the first four.
 use Rattle.std.proofs.Common.{rules}
+use Rattle.names.proofs.DeclareLaws.{declares_knows}
 use Rattle.names.proofs.JudgeLaws.{none_refused, judged_step, judged_last}
 use Rattle.names.proofs.judge_names.Goals as goal
+
+pub invariant_of-named-clause-knows : goal.invariant_of-named-clause-knows
+invariant_of-named-clause-knows c = declares_knows c.check_names.ensures.1
 
 pub returns-in_err-map_err : goal.returns-in_err-map_err
 returns-in_err-map_err c =
