@@ -77,7 +77,7 @@ impl InputSorts {
     }
 
     // The place of an input in the table: of desk 1 or 2, its number below 64.
-    fn slot(desk: u32, number: u32) -> Option<usize>
+    pub(crate) fn slot(desk: u32, number: u32) -> Option<usize>
         ensures inside { InTable desk number → result ≡ Some (slot_of desk number) }
         ensures only_inside { IsSome result → InTable desk number }
     {

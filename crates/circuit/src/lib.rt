@@ -3,4 +3,5 @@
 
 pub mod checks;
 pub mod gates;
+pub mod numbers;
 pub mod sorts;
