@@ -1,5 +1,6 @@
 -- Laws of sorts and gates in code, and of what check 21 notes.
 pub mod SortLaws
+pub mod NumberLaws
 pub mod GateLaws
 pub mod CheckLaws
 pub mod PassLaws
