@@ -60,7 +60,7 @@ fn is_next(sorts: &WireSorts, new: Wire) -> bool
 
 // The sorts at which inputs were read: of desk 1 and then of desk 2, each input below 64. That a read lies in the table (`InTable`) stays a
 // clause: `Read` holds whatever a gate has (the clause of `gate_at`), and a type for it would be built, with the same proof, at each call.
-#[derive(Debug, Drop)]
+#[derive(Clone, Copy, Debug)]
 pub struct InputSorts {
     pub sorts: [Option<Sort>; 128],
     ghost sized: { length sorts ≡ 128 },
