@@ -23,6 +23,11 @@ abbrev pub as_type : rules.Ty → Ty
 as_type rules.uint = Uint
 as_type rules.bool = Bool
 
+-- the type of the rules that a type in code means
+abbrev pub meant_type : Ty → rules.Ty
+meant_type Uint = rules.uint
+meant_type Bool = rules.bool
+
 -- the sort at which a value of a type is kept
 abbrev pub sort_kept : Ty → Sort
 sort_kept Uint = Arithmetic

@@ -28,6 +28,20 @@ impl From<u32> for Ty {
     }
 }
 
+// The number of a type, as a table has it.
+impl From<Ty> for u32 {
+    ghost use Rattle.table.specs.Meaning.{type_number, meant_type};
+
+    ghost from_gives = { λ ty number. number ≡ type_number (meant_type ty) };
+
+    fn from(ty: Ty) -> u32 {
+        match ty {
+            Ty::Uint => 0,
+            Ty::Bool => 1,
+        }
+    }
+}
+
 // The sort at which a value of a type is kept. (The sorts go by name, a form that document 01 names.)
 impl From<Ty> for Sort {
     ghost use Rattle.table.specs.Meaning.{sort_kept};
