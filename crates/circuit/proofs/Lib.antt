@@ -1,4 +1,4 @@
--- Laws of sorts and gates in code, and of what check 21 notes.
+-- Laws of sorts and gates in code and by number, and of what check 21 notes.
 pub mod SortLaws
 pub mod NumberLaws
 pub mod GateLaws
