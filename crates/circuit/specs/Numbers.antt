@@ -1,4 +1,4 @@
--- Sorts by their numbers, of which any number may stand where a sort's is meant (document 01, "Names, labels, indexes").
+-- Sorts by their numbers, where any number may stand in place of a sort's (document 01, "Names, labels, indexes").
 use Rattle.std.specs.Prelude.{ℕ, Bool, not, ◌&&◌, ◌||◌, ◌==◌, nat_lt}
 
 -- a number of a sort is 1, 2 or 3

@@ -12,15 +12,15 @@ pub fn converts(from: u32, to: u32) -> bool
     matches!((from, to), (1, 2) | (2, 1))
 }
 
-// An earlier gate reads the input at another sort. The table has the number of each sort at the input's place in `InputSorts`, and 0
-// where no input was read.
+// An earlier gate reads the input at another sort. The table has, at an input's place (that of `InputSorts`), the number of the sort at
+// which it was read, and 0 where it was not read.
 pub fn clashes(seen: &[u32; 128], desk: u32, number: u32, sort: u32) -> bool
     ensures { InTable desk number → result ≡ other_number (slice_index seen.now (slot_of desk number)) sort }
 {
     InputSorts::slot(desk, number).is_some_and(|k| seen[k] != 0 && seen[k] != sort)
 }
 
-// An input that is read is noted with the number of its sort.
+// An input that is read is noted with the number of its sort, whatever number that is.
 pub fn note_input(seen: &mut [u32; 128], desk: u32, number: u32, sort: u32)
     requires { InTable desk number }
     ensures { seen.new ≡ slice_set seen.old (slot_of desk number) sort }

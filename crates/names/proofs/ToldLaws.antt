@@ -1,5 +1,5 @@
 -- What the code knows of a row before it checks the row: what the row's name stands for, and what is noted of the expressions in it.
-use Rattle.std.proofs.Common.{arith, ℕ, ◌<◌, ◌≡◌, refl, ap, ◌∙◌, List, get_or}
+use Rattle.std.proofs.Common.{arith, ℕ, ◌<◌, ◌≡◌, refl, sym, ap, ◌∙◌, List, get_or}
 use Rattle.std.proofs.lemmas.Grind.{common_steps}
 use Rattle.std.specs.Prelude as code
 use Rattle.std.proofs.Math.Option.{Option, some}
@@ -19,9 +19,9 @@ use Rattle.rows.proofs.Formed.{formed, node_law}
 use Rattle.rows.proofs.ByRows.{Kid, kids, site_is}
 use Rattle.table.specs.declared.row.Row.{Row}
 use Rattle.table.specs.Shapes.{as_op}
-use Rattle.names.specs.Declares.{name_of, found_by, known_by, Knows}
-use Rattle.names.specs.Notes.{CanNote}
-use Rattle.names.proofs.NoteLaws.{declared_found, passes_two, passes_three, named_at, noted_part}
+use Rattle.names.specs.Declares.{name_of, found_by, known_by, Declares, Knows}
+use Rattle.names.specs.Notes.{given_at, declaration_at, CanNote}
+use Rattle.names.proofs.NoteLaws.{said, declared_row, said_by, declared_by, declared_found, passes_two, passes_three, named_at, noted_part}
 
 -- an operator in code means the operator that it was made from
 pub meant_op_lem : (o : Op) → meant_op (as_op o) ≡ o
@@ -56,6 +56,10 @@ pub named_with : (table : List ℕ) → Passes 5 table → (r : ℕ) → r < row
     (node_with (words table) r (kind_at (words table) r) (word (words table) r 1) (word (words table) r 2) (word (words table) r 3)))
 named_with table ok r h = rw (node_law (formed table (passes_two table ok)) r h) at (named_at table ok r h)
 
+-- what the name of a row of a kind stands for in a scope
+abbrev pub found_with : List ℕ → Scope → ℕ → Kind → ℕ → ℕ → ℕ → Option Known
+found_with t sc r k a b c = found_by sc (name_of (node_with t r k a b c))
+
 -- q is what the name in word a stands for in a scope, where a row of a kind reads the name or stores to it
 abbrev pub KnownIn : Scope → Kind → ℕ → Option Known → Type 0
 KnownIn sc (is_e of_name) a q = q ≡ lookup sc a
@@ -66,7 +70,7 @@ KnownIn sc _ a q = Unit {0}
 
 -- check 5 finds each name that is read or stored to
 known_of_kind : (t : List ℕ) (sc : Scope) (r a b c : ℕ) (q : Option Known) (k : Kind) → T (named sc (node_with t r k a b c))
-    → ((x : Known) → found_by sc (name_of (node_with t r k a b c)) ≡ some x → q ≡ some x) → KnownIn sc k a q
+    → ((x : Known) → found_with t sc r k a b c ≡ some x → q ≡ some x) → KnownIn sc k a q
 unfolding named expr_of stmt_of name_of
 known_of_kind t sc r a b c q k passes stands = grind (arith, common_steps, declared_found)
 
@@ -80,6 +84,26 @@ module _ {table : List ℕ} {binders : List (code.Option Row)} {r : ℕ} (ok : P
   known_in =
       let stands = rw (node_law (formed table (passes_two table ok)) r h) at (knows.stands r h) in
       known_of_kind t (scope_at table r) r (word t r 1) (word t r 2) (word t r 3) _ (kind_at t r) (named_with table ok r h) stands
+
+-- row r by what check 5 leaves, which says more: what is said of the row's name, and which declaration it is, also where it stands for nothing
+module _ (table : List ℕ) (binders : List (code.Option Row)) (r : ℕ) (ok : Passes 5 table) (declares : Declares table binders) (h : r < rows_of table) where
+  abbrev binder : code.Option Row
+  binder = get_or binders r code.None
+
+  -- what its name stands for
+  abbrev found : Option Known
+  found = found_with (words table) (scope_at table r) r (kind_at (words table) r) (word (words table) r 1) (word (words table) r 2) (word (words table) r 3)
+
+  stands_is : known_by (words table) binder ≡ found
+  stands_is =
+      declares.stands r h
+      ∙ ap (λ n. found_by (scope_at table r) (name_of n)) (node_law (formed table (passes_two table ok)) r h)
+
+  pub said_is : given_at (words table) binder ≡ said found
+  said_is = sym (said_by (words table) binder) ∙ ap said stands_is
+
+  pub declared_is : declaration_at (words table) binder ≡ declared_row found
+  declared_is = sym (declared_by (words table) binder) ∙ ap declared_row stands_is
 
 -- what is noted of the expressions in row r
 module _ {A : Type 0} {f : Scope → Expr → A} {blank : A} {table : List ℕ} {notes : List A} {r : ℕ} (ok : Passes 5 table)

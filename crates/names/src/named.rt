@@ -38,7 +38,7 @@ impl Named<'_> {
         meaning_at(self.table, row)
     }
 
-    // What the row that is noted says of a row's name.
+    // What the row that is noted says of its name: where a row's name stands for something, what is said of that.
     pub fn given(&self, row: Row) -> Given
         requires { row.0 < rows_of self.now.table.now }
         ensures { result ≡ given_at (words self.now.table.now) (get_or self.now.binders.now row.0 None) }
@@ -49,7 +49,7 @@ impl Named<'_> {
         }
     }
 
-    // The declaration that a row's name stands for: the row that is noted, if that is a declaration.
+    // The row that is noted, if that is a declaration: where a row's name stands for something, the declaration that it stands for.
     pub fn declaration(&self, row: Row) -> Option<Row>
         requires { row.0 < rows_of self.now.table.now }
         ensures { result ≡ declaration_at (words self.now.table.now) (get_or self.now.binders.now row.0 None) }
